@@ -1,0 +1,6 @@
+pub mod Bitwise
+pub mod Literals
+pub mod Theory
+pub mod Computed
+pub mod Rounds
+pub mod Listing

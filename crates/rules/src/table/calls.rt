@@ -1,0 +1,44 @@
+ghost use mathlib.Core.Path.{_≡_};
+ghost use mathlib.Core.Bool.{cond};
+ghost use mathlib.Core.List.{[], _∷_, _++_};
+ghost use lib.Dec.{ltb};
+ghost use lib.ListN.{length};
+ghost use Rattle.rules.specs.Held.{held};
+use crate::rule::Rule;
+use crate::rule::Sign;
+use crate::table::Table;
+
+const NO_RULE: Rule = Rule { sheet: 0, head: 0, sign: Sign::No, yes: 0, no: 0 };
+
+impl Table {
+    pub fn new() -> Table
+        ensures { λ r. ⌜ held r ≡ [] ⌝ }
+    {
+        Table { rules: [NO_RULE; 256], len: 0 }
+    }
+
+    pub fn len(&self) -> usize
+        ensures { λ r. ⌜ r ≡ length (held (now (self .entry))) ⌝ }
+    {
+        self.len
+    }
+
+    pub fn as_slice(&self) -> &[Rule]
+        ensures { λ r. ⌜ now r ≡ held (now (self .entry)) ⌝ }
+    {
+        &self.rules[0..self.len]
+    }
+
+    // Adds the rule at the end and answers true; a full table stays as it is.
+    pub fn push(&mut self, rule: Rule) -> bool
+        ensures value { λ r. ⌜ r ≡ ltb (length (held (now (self .entry)))) 256 ⌝ }
+        ensures after { λ r. ⌜ held (now (self .exit)) ≡ cond r (held (now (self .entry)) ++ (rule ∷ [])) (held (now (self .entry))) ⌝ }
+    {
+        if self.len >= 256 {
+            return false;
+        }
+        self.rules[self.len] = rule;
+        self.len += 1;
+        true
+    }
+}
