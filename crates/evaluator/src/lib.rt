@@ -1,2 +1,11 @@
 // What the sheets of a rack allow: one text for every rack and every order.
+//
+// Each call reads the rack once into a table and works on that.
 pub mod answer;
+pub mod model;
+pub mod outcomes;
+
+mod closure;
+mod defaults;
+mod rejection;
+mod step;

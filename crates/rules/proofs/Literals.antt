@@ -2,14 +2,15 @@
 use mathlib.Core.Path.{_≡_, refl, sym, ap, _∙_, subst}
 use mathlib.Core.Logic.{_⊎_, inl, inr, ⊎-elim}
 use mathlib.Core.Bool.{Bool, true, false}
-use Prim.Native.Nat.{ℕ, _<_, _-_, _^_}
+use Prim.Native.Nat.{ℕ, _+_, _<_, _-_, _^_}
 use native.Mathlib.Omega.{arith}
 use lib.Bits.{bitAnd, bitOr}
+use Rattle.std.proofs.shelf.Tests.{cases-lt}
 use Rattle.rules.specs.declared.rule.Sign.{Sign}
 use Rattle.rules.specs.declared.rule.Sign.the-variants.{Yes, No}
 use Rattle.rules.specs.Semantics.{Mem, LiteralSet, Holds, _⊆_, opposite, settled}
 use Rattle.rules.specs.Parts.{plus}
-use Rattle.rules.proofs.Bitwise.{mem-cases, same-members, mem-and, mem-and-left, mem-and-right, mem-or-left, mem-or-right, mem-or-cases, mem-one, mem-one-is, not-in-zero, without, without-was, without-not, without-other, rest-mem, rest-not, mem-below}
+use Rattle.rules.proofs.Bitwise.{mem-cases, same-members, mem-and, mem-and-left, mem-and-right, mem-or-left, mem-or-right, mem-or-cases, mem-one, mem-one-is, not-in-zero, without, without-was, without-not, without-other, rest-mem, rest-not, mem-below, within-le}
 
 pub yes≢no : Yes ≡ No → ⊥
 yes≢no e = let z : _≡_ {A = ℕ} 0 1 = cc in omega arith
@@ -107,3 +108,10 @@ plus-least X Y No a f h = record {
 -- and no matter with both
 pub settled-one : (n M a : ℕ) → M < 2 ^ n → Holds (settled n M) Yes a → Holds (settled n M) No a → ⊥
 settled-one n M a l h k = rest-not n M a l (mem-below n M a l h) k h
+
+-- a larger set is a larger sum of its two numbers
+pub grown : {X Y : LiteralSet} → X ⊆ Y → (Y ≡ X → ⊥) → X .0 + X .1 < Y .0 + Y .1
+grown {X} {Y} f ne =
+    let p = within-le (X .0) (Y .0) (f .each Yes) in
+    let q = within-le (X .1) (Y .1) (f .each No) in
+    ⊎-elim (λ l. l) (λ l. let a : Y .0 ≡ X .0 = omega arith in let b : Y .1 ≡ X .1 = omega arith in absurd (ne (λ i. (a i, b i)))) (cases-lt (X .0 + X .1) (Y .0 + Y .1))

@@ -1,4 +1,7 @@
-// The sign of a literal: a matter (`Yes`), or its default negation (`No`).
+ghost use Rattle.std.specs.Orderings.{Decides};
+ghost use Rattle.rules.specs.Semantics.{body, Clash, _⊆_};
+
+// The sign of a literal: a matter, which is a propositional atom (`Yes`), or its default negation (`No`).
 #[derive(Clone, Copy, PartialEq, Eq, Debug)]
 pub enum Sign {
     No,
@@ -9,7 +12,7 @@ pub enum Sign {
 // A literal set is its yes matters and its no matters; it may hold both signs of one.
 pub type LiteralSet = (u16, u16);
 
-// A rule of a numbered sheet: the head literal holds if all `yes` matters hold and all `no` matters do not.
+// A rule of a numbered sheet. Its body is true where all `yes` matters hold and all `no` matters do not.
 #[derive(Clone, Copy, PartialEq, Eq, Debug)]
 pub struct Rule {
     pub sheet: u8,
@@ -19,7 +22,23 @@ pub struct Rule {
     pub no: u16,
 }
 
-// The three numbers of a rack: its matters, its sheets and its rules.
+impl Rule {
+    // Whether every literal of the body is in `x`.
+    pub fn body_true(self, x: LiteralSet) -> bool
+        ensures { λ r. ⌜ Decides r (body self ⊆ x) ⌝ }
+    {
+        self.yes & x.0 == self.yes && self.no & x.1 == self.no
+    }
+
+    // Whether the heads are the same matter with opposite signs.
+    pub fn clashes(self, other: Rule) -> bool
+        ensures { λ r. ⌜ Decides r (Clash self other) ⌝ }
+    {
+        self.head == other.head && self.sign != other.sign
+    }
+}
+
+// The three numbers of a rack.
 #[derive(Clone, Copy, PartialEq, Eq, Debug)]
 pub struct Shape {
     pub matters: u8,

@@ -1,0 +1,7 @@
+use mathlib.Core.Path.{ap}
+use Rattle.rules.specs.declared.rule.Shape.{Shape}
+use Rattle.evaluator.proofs.Readiness.{read-ready}
+use Rattle.evaluator.proofs.model.well_founded.Needs as need
+
+pub settle-requires : need.settle-requires
+settle-requires g c κs = read-ready (g .R·Rack·met .kept (c .args .rack .now)) (ap (λ (s : Shape). s .matters) (c .shape .ensures)) (c .as-slice .ensures) (c .read-table .ensures)
