@@ -14,7 +14,7 @@ use Rattle.std.proofs.shelf.Lists.{take-more-set}
 use Rattle.std.proofs.shelf.Tests.{cases-lt}
 use Rattle.rules.specs.declared.rule.Rule.{Rule}
 use Rattle.rules.specs.Semantics.{Overruling, Step, Outcome, settled, Ascending, Lists}
-use Rattle.rules.proofs.Computed.{fixed, decides-fixed, counting-has, counting-only, kept-mem, mem-kept, kept-ascending, mem-length, all-members}
+use Rattle.rules.proofs.Computed.{fixed, decides-fixed, counting-has, counting-only, kept-mem, mem-kept, kept-ascending, mem-length, all-members, all-member}
 
 -- Ms lists the outcomes below m
 pub record ListsBelow (P : List Rule) (over : Overruling) (n m : ℕ) (Ms : List ℕ) : Type 0 where
@@ -90,3 +90,16 @@ found-more {P} {over} {n} {m} {count} {old} {new} f o l = record {
   found = subst (ListsBelow P over n (m + 1)) (sym (take-more-set new count m l)) (lists-more m (take count new) (f .found) o);
   rest = drop-set-lt (count + 1) new count m (omega arith) ∙ sym (drop-drop 1 count new) ∙ ap (drop 1) (f .rest) ∙ drop-drop 1 count old;
 }
+
+-- an ascending list of numbers from a on and below b is no longer than that
+ascending-short : (a b : ℕ) (xs : List ℕ) → a ≤ b → Ascending xs → ((x : ℕ) → List·Memᴰ x xs → (a ≤ x) × (x < b)) → length xs + a ≤ b
+ascending-short a b [] l h f = omega arith
+ascending-short a b (x ∷ xs) l h f =
+    let w = f x (List·Memᴰ·head refl) in
+    let further = ascending-short (x + 1) b xs (let u = w .1 in omega arith) (h .1) (λ y m. let u = all-member (λ z. x < z) xs y (h .0) m in ((omega arith), f y (List·Memᴰ·tail m) .1)) in
+    let u = w .0 in
+    omega arith
+
+-- so there are at most 2 ^ n outcomes
+pub lists-short : {P : List Rule} {over : Overruling} {n : ℕ} {Ms : List ℕ} → Lists P over n Ms → length Ms ≤ 2 ^ n
+lists-short {n} {Ms} l = let h = ascending-short 0 (2 ^ n) Ms (omega arith) (l .ascending) (λ x m. (omega arith, l .only x m .0)) in omega arith

@@ -6,6 +6,7 @@ ghost use lib.ListN.{length};
 ghost use Rattle.rules.specs.Held.{held};
 use crate::rule::Rule;
 use crate::rule::Sign;
+use crate::table::MOST_RULES;
 use crate::table::Table;
 
 const NO_RULE: Rule = Rule { sheet: 0, head: 0, sign: Sign::No, yes: 0, no: 0 };
@@ -14,13 +15,7 @@ impl Table {
     pub fn new() -> Table
         ensures { λ r. ⌜ held r ≡ [] ⌝ }
     {
-        Table { rules: [NO_RULE; 256], len: 0 }
-    }
-
-    pub fn len(&self) -> usize
-        ensures { λ r. ⌜ r ≡ length (held (now (self .entry))) ⌝ }
-    {
-        self.len
+        Table { rules: [NO_RULE; MOST_RULES], len: 0 }
     }
 
     pub fn as_slice(&self) -> &[Rule]
@@ -29,16 +24,23 @@ impl Table {
         &self.rules[0..self.len]
     }
 
+    pub fn len(&self) -> usize
+        ensures { λ r. ⌜ r ≡ length (held (now (self .entry))) ⌝ }
+    {
+        self.as_slice().len()
+    }
+
     // Adds the rule at the end and answers true; a full table stays as it is.
     pub fn push(&mut self, rule: Rule) -> bool
         ensures value { λ r. ⌜ r ≡ ltb (length (held (now (self .entry)))) 256 ⌝ }
         ensures after { λ r. ⌜ held (now (self .exit)) ≡ cond r (held (now (self .entry)) ++ (rule ∷ [])) (held (now (self .entry))) ⌝ }
     {
-        if self.len >= 256 {
+        let at = self.len;
+        if at >= MOST_RULES {
             return false;
         }
-        self.rules[self.len] = rule;
-        self.len += 1;
+        self.rules[at] = rule;
+        self.len = at + 1;
         true
     }
 }

@@ -8,9 +8,9 @@ use Rattle.std.proofs.shelf.Tests.{le-ltb, lt-ltb}
 use Rattle.rules.specs.Held.{held}
 use Rattle.rules.proofs.table.Table.push.Needs as need
 
-pub returns-then-self-ge256 : need.returns-then-self-ge256
+pub returns-then-at-ge-MOST-RULES : need.returns-then-at-ge-MOST-RULES
 unfolding held
-returns-then-self-ge256 c =
+returns-then-at-ge-MOST-RULES c =
     let t = c .args .self .now in
     let e = length-take-le (t .len) (t .rules) (omega (arith, t .whole, t .within)) in
     record { value = sym (le-ltb _ _ (omega (arith, e))); after = refl }

@@ -1,0 +1,3 @@
+pub mod Splices
+pub mod Lengths
+pub mod Reporting
