@@ -6,7 +6,7 @@ use Prim.Native.Nat.{ℕ, zero, suc, _+_, _-_, _*_, _/_, _%_, _<_, _≤_}
 use lib.Dec.{ltb, eqb}
 use lib.ListN.{length, getD, drop}
 use Rattle.std.specs.declared.option.Option.the-variants.{Some}
-use Rattle.std.specs.shelf.Lists.{All}
+use Rattle.std.specs.shelf.Lists.{All, joined}
 use Rattle.rules.specs.declared.record.Record.{Record}
 use Rattle.rules.specs.declared.rule.Rule.{Rule}
 use Rattle.rules.specs.Records.{good, ruled}
@@ -22,16 +22,14 @@ abbrev pub packed-rule : Record → List ℕ
 packed-rule x = x .head ∷ (x .sign ∷ (two-bytes (x .yes) ++ two-bytes (x .no)))
 
 abbrev pub packed-rules : List Record → List ℕ
-packed-rules [] = []
-packed-rules (x ∷ xs) = packed-rule x ++ packed-rules xs
+packed-rules xs = joined packed-rule xs
 
 -- the length counts the bytes of the rules alone
 abbrev pub packed-sheet : List Record → List ℕ
 packed-sheet xs = two-bytes (6 * length xs) ++ packed-rules xs
 
 abbrev pub packed-sheets : List (List Record) → List ℕ
-packed-sheets [] = []
-packed-sheets (xs ∷ sheets) = packed-sheet xs ++ packed-sheets sheets
+packed-sheets sheets = joined packed-sheet sheets
 
 abbrev pub packed : ℕ → List (List Record) → List ℕ
 packed n sheets = 1 ∷ (n ∷ (length sheets ∷ packed-sheets sheets))
@@ -85,10 +83,14 @@ record-at bytes i = record {
   no = getD bytes (i + 4) 0 * 256 + getD bytes (i + 5) 0;
 }
 
--- one of the first k records there is bad
-abbrev pub some-bad : ℕ → List ℕ → ℕ → Bool
-some-bad n bytes zero = false
-some-bad n bytes (suc k) = some-bad n bytes k || not (good n (record-at bytes (2 + 6 * k)))
+-- the first k records
+abbrev pub records : ℕ → List ℕ → List Record
+records zero bytes = []
+records (suc k) bytes = record-at bytes 0 ∷ records k (drop 6 bytes)
+
+abbrev pub some-bad : ℕ → List Record → Bool
+some-bad n [] = false
+some-bad n (x ∷ xs) = not (good n x) || some-bad n xs
 
 -- what may be wrong with the sheet that comes next, after `used` rules
 abbrev pub sheet-table : ℕ → ℕ → List ℕ → Table
@@ -97,7 +99,7 @@ sheet-table n used bytes =
     ∷ ((6, not (eqb (stated bytes % 6) 0))
     ∷ ((7, ltb 256 (used + stated bytes / 6))
     ∷ ((5, ltb (length bytes) (2 + stated bytes))
-    ∷ ((8, some-bad n bytes (stated bytes / 6))
+    ∷ ((8, some-bad n (records (stated bytes / 6) (drop 2 bytes)))
     ∷ []))))
 
 -- after a sound head for `total` sheets, the bytes go on with these sheets and then with the rest

@@ -22,5 +22,15 @@ pub trait Rack {
 
     // All rules in order. A layer writes its own, so that a pile is read once through.
     fn read(&self) -> Table
-        ensures { λ r. ⌜ held r ≡ meaning (now (self .entry)) .rules ⌝ };
+        ensures { λ r. ⌜ held r ≡ meaning (now (self .entry)) .rules ⌝ }
+    {
+        let mut table = Table::new();
+        let shape = self.shape();
+        for place in 0..shape.rules {
+            if let Some(rule) = self.rule(place) {
+                table.push(rule);
+            }
+        }
+        table
+    }
 }

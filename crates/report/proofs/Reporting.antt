@@ -28,5 +28,5 @@ filled-short {n} few f e =
     omega (arith, ap length e)
 
 pub reported : {P : List Rule} {over : Overruling} {n code : ℕ} {old new words : List ℕ} (before after : List ℕ) → Composed P over n code old new words → (w : Option ℕ) → Writes words before after w → Reported P over n code old new before after (okOr w TextTooLong)
-reported {words} before after composed (Some len) h = record { words = words; composed = composed; len-is = h .0; after-is = h .2 }
+reported {words} before after composed (Some len) h = record { words = words; composed = composed; len-is = h .0; fits = h .1; after-is = h .2 }
 reported {words} before after composed None h = (inr (refl, record { words = words; composed = composed; longer = h .0 }), h .1)

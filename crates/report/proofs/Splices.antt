@@ -41,10 +41,14 @@ splice-behind xs p q at h =
 pub puts-nothing : (xs : List ℕ) (at : ℕ) → at ≤ length xs → Puts xs at [] xs at
 puts-nothing xs at h = record { room = omega arith; leaves = sym (splice-nothing xs at); ends = sym (add-zero at) }
 
+-- a piece leaves the length as it was
+pub puts-long : {xs ys p : List ℕ} {at end : ℕ} → Puts xs at p ys end → length ys ≡ length xs
+puts-long {xs} {ys} {p} {at} a = ap length (a .leaves) ∙ length-spliced xs p at (a .room)
+
 pub puts-then : {xs ys zs p q : List ℕ} {at mid end : ℕ} → Puts xs at p ys mid → Puts ys mid q zs end → Puts xs at (p ++ q) zs end
 puts-then {xs} {ys} {zs} {p} {q} {at} {mid} {end} a b =
     let sum = length-append p q in
-    let same : length ys ≡ length xs = ap length (a .leaves) ∙ length-spliced xs p at (a .room) in
+    let same = puts-long a in
     record { room = omega arith; leaves = cc (splice-behind xs p q at (a .room)); ends = omega arith }
 
 pub puts-byte : (xs : List ℕ) (at b : ℕ) → at < length xs → Puts xs at (b ∷ []) (set xs at b) (at + 1)

@@ -26,6 +26,7 @@ pub record Told (P : List Rule) (over : Overruling) (n code : ℕ) (old new befo
   pub words : List ℕ
   pub composed : Composed P over n code old new words
   pub len-is : len ≡ length words
+  pub fits : len ≤ length before
   pub after-is : after ≡ words ++ drop len before
 
 -- the text is longer than the buffer

@@ -87,7 +87,7 @@ fn put_row(out: &mut [u8], start: usize, row: Row, matters: u8) -> usize
     put_byte(out, at, b'\n')
 }
 
-fn put_decimal(out: &mut [u8], start: usize, value: usize) -> usize
+pub(crate) fn put_decimal(out: &mut [u8], start: usize, value: usize) -> usize
     requires { ⌜ start + length (decimal value) ≤ length (now out) ⌝ }
     ensures { λ r. ⌜ Puts (now (out .entry)) start (decimal value) (now (out .exit)) r ⌝ }
 {
@@ -99,7 +99,7 @@ fn put_decimal(out: &mut [u8], start: usize, value: usize) -> usize
     put_byte(out, at, b'0' + (value % 10) as u8)
 }
 
-fn put_byte(out: &mut [u8], at: usize, byte: u8) -> usize
+pub(crate) fn put_byte(out: &mut [u8], at: usize, byte: u8) -> usize
     requires { ⌜ at < length (now out) ⌝ }
     ensures { λ r. ⌜ Puts (now (out .entry)) at (byte ∷ []) (now (out .exit)) r ⌝ }
 {
