@@ -1,3 +1,4 @@
 pub mod Gathered
 pub mod Sifted
 pub mod Readiness
+pub mod Surveyed

@@ -2,6 +2,7 @@
 //
 // Each call reads the rack once into a table and works on that.
 pub mod answer;
+pub mod matter;
 pub mod model;
 pub mod outcomes;
 

@@ -3,6 +3,7 @@ ghost use Prim.Native.Nat.{_-_, _^_, _<_, _≤_};
 ghost use Rattle.std.specs.Orderings.{Decides};
 ghost use Rattle.rules.specs.Semantics.{Outcome};
 ghost use Rattle.evaluator.specs.Answers.{Listed};
+ghost use Rattle.evaluator.specs.Finding.{Next};
 ghost use Rattle.evaluator.specs.Parts.{Ready};
 use crate::answer::EvaluatorFault;
 use crate::closure::same;
@@ -34,17 +35,30 @@ fn search<O: Order>(
     ensures { λ r. ⌜ Listed (now (rules .entry)) (O·Order .over (now (order .entry))) matters (now (list .entry)) (now (list .exit)) r ⌝ }
 {
     let mut count = 0;
-    let end = 1u32 << matters;
-    for m in 0..end {
-        if is_outcome(rules, order, matters, m as u16) {
-            if count == list.len() {
-                return Err(EvaluatorFault::TooManyOutcomes);
-            }
-            list[count] = m as u16;
-            count += 1;
+    let mut from = 0;
+    while let Some(m) = next_outcome(rules, order, matters, from) {
+        if count == list.len() {
+            return Err(EvaluatorFault::TooManyOutcomes);
         }
+        list[count] = m;
+        count += 1;
+        from = u32::from(m) + 1;
     }
     Ok(count)
+}
+
+// The least outcome that is not below `from`.
+pub fn next_outcome<O: Order>(rules: &[Rule], order: &O, matters: u8, from: u32) -> Option<u16>
+    requires { ⌜ Ready matters (now rules) ⌝ }
+    ensures { λ r. ⌜ Next (now (rules .entry)) (O·Order .over (now (order .entry))) matters from r ⌝ }
+{
+    let end = 1u32 << matters;
+    for m in from..end {
+        if is_outcome(rules, order, matters, m as u16) {
+            return Some(m as u16);
+        }
+    }
+    None
 }
 
 fn is_outcome<O: Order>(rules: &[Rule], order: &O, matters: u8, m: u16) -> bool

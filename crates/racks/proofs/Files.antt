@@ -42,9 +42,6 @@ pub length-numbered : (i : ℕ) (sheets : List (List Record)) → length (number
 length-numbered i [] = refl
 length-numbered i (xs ∷ sheets) = let h = length-numbered (i + 1) sheets in simp (length-append, length-map) (omega arith)
 
-pub done-none : (n : ℕ) (bytes : List ℕ) → Done n 0 bytes bytes []
-done-none n bytes = record { sheets = []; so-many = refl; bytes-are = refl; holdable = record { all-good = tt; few-rules = omega arith }; rules-are = refl }
-
 pub done-more : (n s : ℕ) (bytes rest after : List ℕ) (P Q : List Rule) → Done n s bytes rest P → SheetRead n s rest P after Q → Done n (s + 1) bytes after Q
 done-more n s bytes rest after P Q d r = record {
   sheets = d .sheets ++ (r .sheet ∷ []);

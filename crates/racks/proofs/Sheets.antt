@@ -1,14 +1,14 @@
 -- Reading one sheet: its rules one by one, the sheet whole, and a bad rule in it.
-use mathlib.Core.Path.{_≡_, sym, ap, subst, _∙_}
-use mathlib.Core.Bool.{true}
+use mathlib.Core.Path.{_≡_, sym, ap, _∙_}
+use mathlib.Core.Bool.{true, cond}
 use mathlib.Core.List.{List, [], _∷_, _++_, map}
-use Prim.Native.Nat.{ℕ, _+_, _-_, _*_, _/_, _%_, _≤_}
+use Prim.Native.Nat.{ℕ, _+_, _*_, _/_, _%_, _≤_}
 use native.Mathlib.Omega.{arith}
-use lib.ListN.{length, drop, length-append}
-use Rattle.std.specs.declared.option.Option.the-variants.{Some}
-use Rattle.std.proofs.shelf.Lists.{append-nil, append-assoc, map-push, length-map, take-append-drop}
+use lib.ListN.{length, drop}
+use Rattle.std.specs.declared.option.Option.the-variants.{Some, None}
+use Rattle.std.proofs.shelf.Lists.{append-assoc, map-push, length-map, length-append, take-append-drop}
 use Rattle.std.proofs.shelf.Elements.{all-push}
-use Rattle.std.proofs.shelf.Tests.{le-ltb, eq-eqb}
+use Rattle.std.proofs.shelf.Tests.{le-ltb, eq-eqb, cond-true}
 use Rattle.rules.specs.declared.record.Record.{Record}
 use Rattle.rules.specs.declared.rule.Rule.{Rule}
 use Rattle.rules.specs.Records.{good, ruled}
@@ -16,9 +16,6 @@ use Rattle.rules.specs.Refusals.{first-met}
 use Rattle.racks.specs.Packing.{packed-sheet, stated, records, some-bad, sheet-table}
 use Rattle.racks.specs.Reading.{Adds, SheetRead}
 use Rattle.racks.proofs.Packings.{AllBytes, two-bytes-of, bytes-drop, length-records, packed-records}
-
-pub adds-none : (n s : ℕ) (P : List Rule) → Adds n s [] P P
-adds-none n s P = record { all-good = tt; added = sym (append-nil P) }
 
 pub adds-more : (n s : ℕ) (xs : List Record) (x : Record) (P Q R : List Rule) (r : Rule) → Adds n s xs P Q → good n x ≡ true → r ≡ ruled s x → R ≡ Q ++ (r ∷ []) → Adds n s (xs ++ (x ∷ [])) P R
 adds-more n s xs x P Q R r a g e f = record {
@@ -53,13 +50,20 @@ sheet-read n s v bytes rest after P Q b e f g m few l a = record {
   few-rules = rw (length-records (v / 6) rest) few;
 }
 
+-- a sheet whose length is right is refused for a bad record alone
+pub sheet-met : (n used : ℕ) (bytes : List ℕ) → stated bytes % 6 ≡ 0 → used + stated bytes / 6 ≤ 256 → 2 + stated bytes ≤ length bytes
+    → first-met (sheet-table n used bytes) ≡ cond (some-bad n (records (stated bytes / 6) (drop 2 bytes))) (Some 8) None
+sheet-met n used bytes m few l =
+    let e1 = le-ltb (length bytes) 2 (omega arith) in
+    let e2 = eq-eqb (stated bytes % 6) 0 m in
+    let e3 = le-ltb 256 (used + stated bytes / 6) few in
+    let e4 = le-ltb (length bytes) (2 + stated bytes) l in
+    rw (e1, e2, e3, e4)
+
 pub sheet-bad : (n used v : ℕ) (bytes rest : List ℕ) → v ≡ stated bytes → rest ≡ drop 2 bytes → v % 6 ≡ 0 → used + v / 6 ≤ 256 → 2 + v ≤ length bytes
     → some-bad n (records (v / 6) rest) ≡ true → first-met (sheet-table n used bytes) ≡ Some 8
 sheet-bad n used v bytes rest e f m few l bad =
-    let m2 : stated bytes % 6 ≡ 0 = omega arith in
-    let e1 = le-ltb (length bytes) 2 (omega arith) in
-    let e2 = eq-eqb (stated bytes % 6) 0 m2 in
-    let e3 = le-ltb 256 (used + stated bytes / 6) (omega arith) in
-    let e4 = le-ltb (length bytes) (2 + stated bytes) (omega arith) in
-    let e5 : some-bad n (records (stated bytes / 6) (drop 2 bytes)) ≡ true = subst (λ (r : List ℕ). some-bad n (records (stated bytes / 6) r) ≡ true) f (subst (λ (w : ℕ). some-bad n (records (w / 6) rest) ≡ true) e bad) in
-    rw (e1, e2, e3, e4, e5)
+    let k : stated bytes % 6 ≡ 0 = omega arith in
+    let t = sheet-met n used bytes k (omega arith) (omega arith) in
+    let b : some-bad n (records (stated bytes / 6) (drop 2 bytes)) ≡ true = cc in
+    t ∙ cond-true _ (Some 8) None b

@@ -2,18 +2,19 @@
 use mathlib.Core.Path.{_≡_, refl, sym, ap, subst, _∙_}
 use mathlib.Core.Bool.{true, false}
 use mathlib.Core.List.{List, [], _∷_, _++_}
-use Prim.Native.Nat.{ℕ, _+_, _-_, _*_, _/_, _%_, _<_, _≤_}
+use Prim.Native.Nat.{ℕ, _+_, _*_, _/_, _%_, _<_, _≤_}
 use native.Mathlib.Nat.{div-add-mod'}
 use native.Mathlib.Omega.{arith}
 use lib.ListN.{length}
 use Rattle.std.specs.declared.option.Option.the-variants.{Some, None}
 use Rattle.std.specs.shelf.Lists.{All}
 use Rattle.std.proofs.shelf.Lists.{length-append, append-assoc, append-cancel-left, nil-from-length}
-use Rattle.std.proofs.shelf.Tests.{le-ltb, eq-eqb, ne-eqb}
+use Rattle.std.proofs.shelf.Tests.{le-ltb, ne-eqb, cond-false}
 use Rattle.rules.specs.declared.record.Record.{Record}
 use Rattle.rules.specs.Records.{good}
 use Rattle.rules.specs.Refusals.{first-met}
 use Rattle.racks.specs.Packing.{packed-rules, packed-sheet, packed-sheets, packed, count, File, stated, record-at, records, some-bad, head-table, sheet-table, Reaches, Refused, in-head, in-sheet, at-end}
+use Rattle.racks.proofs.Sheets.{sheet-met}
 
 number-back : (v w : ℕ) → v / 256 ≡ w / 256 → v % 256 ≡ w % 256 → v ≡ w
 number-back v w d m = omega arith
@@ -76,18 +77,15 @@ length-packed (x ∷ xs) = let h = length-packed xs in omega arith
 sheet-fine : (n used : ℕ) (xs : List Record) (r : List ℕ) → All (λ x. good n x ≡ true) xs → used + length xs ≤ 256 → first-met (sheet-table n used (packed-sheet xs ++ r)) ≡ None
 sheet-fine n used xs r a l =
     let bytes = packed-sheet xs ++ r in
-    let v = div-add-mod' (6 * length xs) 256 in
-    let w : stated bytes ≡ 6 * length xs = v in
+    let w : stated bytes ≡ 6 * length xs = div-add-mod' (6 * length xs) 256 in
     let d : stated bytes / 6 ≡ length xs = omega arith in
     let m : stated bytes % 6 ≡ 0 = omega arith in
-    let n1 = length-append (packed-rules xs) r in
-    let n2 = length-packed xs in
-    let e1 = le-ltb (length bytes) 2 (omega arith) in
-    let e2 = eq-eqb (stated bytes % 6) 0 m in
-    let e3 = le-ltb 256 (used + stated bytes / 6) (omega arith) in
-    let e4 = le-ltb (length bytes) (2 + stated bytes) (omega arith) in
-    let e5 : some-bad n (records (stated bytes / 6) (packed-rules xs ++ r)) ≡ false = ap (some-bad n) (ap (λ (k : ℕ). records k (packed-rules xs ++ r)) d ∙ records-back xs r) ∙ none-bad n xs a in
-    rw (e1, e2, e3, e4, e5)
+    let c = length-append (packed-rules xs) r in
+    let p = length-packed xs in
+    let b = records-back xs r in
+    let g = none-bad n xs a in
+    let e : some-bad n (records (stated bytes / 6) (packed-rules xs ++ r)) ≡ false = cc in
+    sheet-met n used bytes m (omega arith) (omega arith) ∙ cond-false _ (Some 8) None e
 
 head-fine : (bytes : List ℕ) (n : ℕ) (sheets : List (List Record)) → File bytes n sheets → first-met (head-table bytes) ≡ None
 head-fine bytes n sheets f =

@@ -4,3 +4,4 @@ pub mod Theory
 pub mod Computed
 pub mod Rounds
 pub mod Listing
+pub mod Tautologies

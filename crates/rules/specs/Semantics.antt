@@ -11,7 +11,8 @@ use mathlib.Core.Bool.{Bool, true, not, _&&_}
 use mathlib.Core.List.{List, [], _∷_, List·Memᴰ}
 use mathlib.Core.Logic.{_⊎_}
 use Prim.Native.Nat.{ℕ, suc, _-_, _/_, _%_, _^_, _<_}
-use Rattle.std.specs.shelf.Lists.{All}
+use lib.Dec.{eqb}
+use Rattle.std.specs.shelf.Lists.{All, kept-by}
 use Rattle.rules.specs.declared.rule.Rule.{Rule}
 use Rattle.rules.specs.declared.rule.Sign.{Sign}
 use Rattle.rules.specs.declared.rule.Sign.the-variants.{Yes, No}
@@ -56,6 +57,14 @@ Clash s r = (s .head ≡ r .head) × (s .sign ≡ opposite (r .sign))
 -- the head literal of the rule stands in its own body
 abbrev pub Tautology : Rule → Type 0
 Tautology r = Holds (body r) (r .sign) (r .head)
+
+abbrev pub holds : LiteralSet → Sign → ℕ → Bool
+holds X Yes a = eqb (X .0 / 2 ^ a % 2) 1
+holds X No a = eqb (X .1 / 2 ^ a % 2) 1
+
+-- the rules with the tautologies struck out
+unfoldable pub struck : List Rule → List Rule
+struck P = kept-by (λ r. not (holds (body r) (r .sign) (r .head))) P
 
 -- each head is a matter
 abbrev pub Formed : ℕ → List Rule → Type 0

@@ -68,7 +68,7 @@ fn read_sheet<'a>(
     let [high, low, rest @ ..] = bytes else {
         return Err(FileFault::CutOff);
     };
-    let length = u16::from_be_bytes([*high, *low]) as usize;
+    let length = big_endian(*high, *low) as usize;
     if length % RULE_BYTES != 0 {
         return Err(FileFault::Ragged);
     }
@@ -104,7 +104,7 @@ fn read_rules(
     Ok(())
 }
 
-// The record of the six bytes at a place; a set is two bytes, the high one first.
+// The record of the six bytes at a place.
 fn record_at(bytes: &[u8], place: usize) -> Record
     requires { ⌜ place + 6 ≤ length (now bytes) ⌝ }
     ensures { λ r. ⌜ r ≡ record-at (now (bytes .entry)) place ⌝ }
@@ -112,7 +112,14 @@ fn record_at(bytes: &[u8], place: usize) -> Record
     Record {
         head: bytes[place],
         sign: bytes[place + 1],
-        yes: u16::from_be_bytes([bytes[place + 2], bytes[place + 3]]),
-        no: u16::from_be_bytes([bytes[place + 4], bytes[place + 5]]),
+        yes: big_endian(bytes[place + 2], bytes[place + 3]),
+        no: big_endian(bytes[place + 4], bytes[place + 5]),
     }
+}
+
+// A length or a set, from its two bytes.
+fn big_endian(high: u8, low: u8) -> u16
+    ensures { λ r. ⌜ r ≡ high * 256 + low ⌝ }
+{
+    u16::from_be_bytes([high, low])
 }
