@@ -5,6 +5,7 @@ pub mod answer;
 pub mod matter;
 pub mod model;
 pub mod outcomes;
+pub mod two;
 
 mod closure;
 mod defaults;

@@ -1,5 +1,5 @@
-ghost use lib.Dec.{leb};
-ghost use Rattle.orders.specs.Grading.{grade};
+ghost use Rattle.orders.specs.Grading.{graded};
+ghost use Rattle.orders.specs.Overrules.{by-grade};
 use crate::grades::Grades;
 use crate::order::Order;
 
@@ -14,7 +14,7 @@ pub impl Order for Graded as GradedOrder {
 
     ghost number = { 2 };
 
-    ghost over = { λ x j i. leb (grade (x .grades) i) (grade (x .grades) j) };
+    ghost over = { λ x. by-grade (graded (x .grades)) };
 
     fn code_number() -> u8 {
         Self::CODE

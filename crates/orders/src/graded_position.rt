@@ -1,4 +1,5 @@
-ghost use Rattle.orders.specs.Grading.{grade, ranks};
+ghost use Rattle.orders.specs.Grading.{graded};
+ghost use Rattle.orders.specs.Overrules.{by-grade-then-position};
 use crate::grades::Grades;
 use crate::order::Order;
 
@@ -13,7 +14,7 @@ pub impl Order for GradedPosition as GradedPositionOrder {
 
     ghost number = { 3 };
 
-    ghost over = { λ x j i. ranks (grade (x .grades) i) i (grade (x .grades) j) j };
+    ghost over = { λ x. by-grade-then-position (graded (x .grades)) };
 
     fn code_number() -> u8 {
         Self::CODE

@@ -1,4 +1,4 @@
-ghost use lib.Dec.{leb};
+ghost use Rattle.orders.specs.Overrules.{by-position};
 use crate::order::Order;
 
 // The order by position, code 1: a later sheet overrules an earlier one, and each overrules itself.
@@ -10,7 +10,7 @@ pub impl Order for Position as PositionOrder {
 
     ghost number = { 1 };
 
-    ghost over = { λ _ j i. leb i j };
+    ghost over = { λ _. by-position };
 
     fn code_number() -> u8 {
         Self::CODE

@@ -31,7 +31,7 @@ pub numbered-sound : (n : ℕ) (sheets : List (List Record)) → All (All (λ x.
 numbered-sound n sheets a k l = all-getD (Sound n (length sheets)) (numbered 0 sheets) k no-rule l (numbered-good n (length sheets) 0 sheets (omega arith) a)
 
 -- lists that rise, the one up to a sheet and the other from it on
-rising-append : (b : ℕ) (P Q : List Rule) → Rising P → All (λ r. r .sheet ≤ b) P → All (λ r. b ≤ r .sheet) Q → Rising Q → Rising (P ++ Q)
+pub rising-append : (b : ℕ) (P Q : List Rule) → Rising P → All (λ r. r .sheet ≤ b) P → All (λ r. b ≤ r .sheet) Q → Rising Q → Rising (P ++ Q)
 rising-append b P Q p low high q i j ij jl =
     let n = length-append P Q in
     ⊎-elim

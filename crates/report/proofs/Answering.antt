@@ -12,8 +12,9 @@ use Rattle.racks.specs.declared.file.FileRack.{FileRack}
 use Rattle.racks.specs.Filing.{file-meaning, Filled}
 use Rattle.racks.specs.Meaning.{Meaning}
 use Rattle.racks.specs.Packing.{rack-of}
+use Rattle.orders.specs.Overrules.{by-position}
 use Rattle.evaluator.specs.Answers.{Overfull}
-use Rattle.report.specs.Listings.{position, refusal, Says, Answers}
+use Rattle.report.specs.Listings.{refusal, Says, Answers}
 use Rattle.report.specs.Listings.Says.{outcomes, too-many}
 use Rattle.report.specs.Reports.{Told, TooLong}
 use Rattle.report.specs.Text.{text}
@@ -27,9 +28,9 @@ said-refusal {bytes} {before} {after} {j} {k} {len} e s p =
     record { words = refusal k; says = s; len-is = w .0; fits = w .1; after-is = w .2 }
 
 module _ {bytes : List ℕ} {rack : FileRack} (filled : Filled bytes rack) where
-  pub said-report : {old new before after : List ℕ} {len : ℕ} → length new ≡ 1024 → Told (file-meaning rack .rules) position (file-meaning rack .matters) 1 old new before after len → Answers bytes before after len
+  pub said-report : {old new before after : List ℕ} {len : ℕ} → length new ≡ 1024 → Told (file-meaning rack .rules) by-position (file-meaning rack .matters) 1 old new before after len → Answers bytes before after len
   said-report {old} {new} {before} {after} {len} l t =
-      let u = subst (λ (m : Meaning). Told (m .rules) position (m .matters) 1 old new before after len) (filled .holds) t in
+      let u = subst (λ (m : Meaning). Told (m .rules) by-position (m .matters) 1 old new before after len) (filled .holds) t in
       let c = u .composed in
       let e = length-take-le (c .count) new (c .filled .enough) in
       record {
@@ -40,15 +41,15 @@ module _ {bytes : List ℕ} {rack : FileRack} (filled : Filled bytes rack) where
         after-is = u .after-is ∙ ap (λ (ws : List ℕ). ws ++ drop len before) (c .text-is);
       }
 
-  pub said-too-many : {new : List ℕ} → length new ≡ 1024 → Overfull (file-meaning rack .rules) position (file-meaning rack .matters) new → Says bytes (refusal 31)
+  pub said-too-many : {new : List ℕ} → length new ≡ 1024 → Overfull (file-meaning rack .rules) by-position (file-meaning rack .matters) new → Says bytes (refusal 31)
   said-too-many {new} l o =
-      let u = subst (λ (m : Meaning). Overfull (m .rules) position (m .matters) new) (filled .holds) o in
+      let u = subst (λ (m : Meaning). Overfull (m .rules) by-position (m .matters) new) (filled .holds) o in
       too-many (filled .file) (u .listed) (let h = u .too-many in omega arith)
 
   -- 1,024 lines of 16 digits and the two others are no longer than 32,768 bytes
-  pub never-too-long : {old new before : List ℕ} → length new ≡ 1024 → length before ≡ 32768 → TooLong (file-meaning rack .rules) position (file-meaning rack .matters) 1 old new before → ⊥
+  pub never-too-long : {old new before : List ℕ} → length new ≡ 1024 → length before ≡ 32768 → TooLong (file-meaning rack .rules) by-position (file-meaning rack .matters) 1 old new before → ⊥
   never-too-long {old} {new} {before} l k t =
-      let u = subst (λ (m : Meaning). TooLong (m .rules) position (m .matters) 1 old new before) (filled .holds) t in
+      let u = subst (λ (m : Meaning). TooLong (m .rules) by-position (m .matters) 1 old new before) (filled .holds) t in
       let c = u .composed in
       let Ms = take (c .count) new in
       let n = filled .matters in
