@@ -33,4 +33,13 @@ pub trait Rack {
         }
         table
     }
+
+    // Shape and rules at once. A layer that needs both asks the rack below by this one call,
+    // so that a pile is surveyed, read and counted in time linear in its depth.
+    fn survey(&self) -> (Shape, Table)
+        ensures shape { λ r. ⌜ r .0 ≡ shaped (meaning (now (self .entry))) ⌝ }
+        ensures rules { λ r. ⌜ held (r .1) ≡ meaning (now (self .entry)) .rules ⌝ }
+    {
+        (self.shape(), self.read())
+    }
 }

@@ -5,3 +5,4 @@ pub mod Computed
 pub mod Rounds
 pub mod Listing
 pub mod Tautologies
+pub mod Refusing

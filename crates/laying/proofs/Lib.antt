@@ -1,0 +1,4 @@
+pub mod Chosen
+pub mod Laid
+pub mod Answered
+pub mod Pocketed
