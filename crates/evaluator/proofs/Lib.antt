@@ -1,5 +1,9 @@
-pub mod Gathered
+pub mod SetOfs
 pub mod Sifted
+pub mod Opposing
 pub mod Readiness
+pub mod Subsets
+pub mod Between
+pub mod Findings
 pub mod Surveyed
 pub mod Lawful

@@ -3,6 +3,9 @@ pub mod Numbers
 pub mod Answers
 pub mod Matters
 pub mod Laws
-pub mod Finding
 pub mod Firing
 pub mod Parts
+pub mod Ruling
+pub mod Claiming
+pub mod Subsets
+pub mod Finding

@@ -1,5 +1,6 @@
 -- What the evaluator says of one matter.
 use mathlib.Core.Path.{_≡_}
+use mathlib.Core.Bool.{Bool, true, false}
 use mathlib.Core.List.{List, [], _∷_}
 use Prim.Native.Nat.{ℕ}
 use lib.Dec.{leb}
@@ -53,6 +54,13 @@ RulingOf P over n a Always = SomeWith P over n a × (SomeWithout P over n a → 
 RulingOf P over n a Never = SomeWithout P over n a × (SomeWith P over n a → ⊥)
 RulingOf P over n a Varies = SomeWith P over n a × SomeWithout P over n a
 RulingOf P over n a NoOutcome = (SomeWith P over n a → ⊥) × (SomeWithout P over n a → ⊥)
+
+-- the ruling, by whether some outcome has the matter, and whether some lacks it
+abbrev pub sum : Bool → Bool → Ruling
+sum true false = Always
+sum false true = Never
+sum true true = Varies
+sum false false = NoOutcome
 
 abbrev pub RulingAnswered : List Rule → Overruling → ℕ → ℕ → Result Ruling EvaluatorFault → Type 0
 RulingAnswered P over n a r = Judged fault-number (matter-table n a) (RulingOf P over n a) (Unit {0}) r

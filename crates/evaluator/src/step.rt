@@ -1,24 +1,23 @@
-ghost use Rattle.rules.specs.Semantics.{Step};
-ghost use Rattle.evaluator.specs.Parts.{by, Ready};
+ghost use Rattle.rules.specs.Semantics.{Overruling, Step};
+ghost use Rattle.evaluator.specs.Parts.{Ready, Tabled};
+use crate::claims::Claims;
 use crate::closure::closure;
-use crate::defaults::defaults;
-use crate::rejection::Rejection;
+use crate::overrulers::MOST_SHEETS;
 use crate::rejection::survivors;
-use orders::order::Order;
 use rules::rule::LiteralSet;
 use rules::rule::Rule;
 
 // The closure of the rules that are not rejected in `x` and the defaults in `x`.
-pub fn step<O: Order>(
+pub fn step(
     rules: &[Rule],
-    order: &O,
-    way: Rejection,
     matters: u8,
+    overrulers: &[u32; MOST_SHEETS],
     x: LiteralSet,
 ) -> LiteralSet
     requires { ⌜ Ready matters (now rules) ⌝ }
-    ensures { λ y. ⌜ Step (now (rules .entry)) (by way (O·Order .over (now (order .entry)))) matters x y ⌝ }
+    ensures { λ y. ⌜ ((over : Overruling) → Tabled over (now (overrulers .entry)) → Step (now (rules .entry)) over matters x y) ⌝ }
 {
-    let standing = survivors(rules, order, way, x);
-    closure(standing.as_slice(), defaults(rules, matters, x))
+    let claims = Claims::in_set(rules, x);
+    let standing = survivors(rules, overrulers, &claims);
+    closure(standing.as_slice(), claims.defaults(matters))
 }

@@ -33,29 +33,6 @@ module _ {P : List Rule} {over : Overruling} {n : ℕ} where
   pub lists-none : ListsBelow P over n 0 []
   lists-none = record { ascending = tt; only = λ M i. absurd (List·Memᴰ·not-nil i); all = λ M l. absurd (omega arith) }
 
-  pub lists-skip : {m : ℕ} {Ms : List ℕ} → ListsBelow P over n m Ms → (Outcome P over n m → ⊥) → ListsBelow P over n (m + 1) Ms
-  lists-skip {m} l f = record {
-    ascending = l .ascending;
-    only = λ M i. let w = l .only M i in ((let h = w .0 in omega arith), w .1);
-    all = λ M h o. ⊎-elim (λ k. l .all M k o) (λ k. let e : M ≡ m = omega arith in absurd (f (subst (λ (x : ℕ). Outcome P over n x) e o))) (cases-lt M m);
-  }
-
-  -- those below m are those below k, if none lies between
-  pub lists-reach : {m k : ℕ} {Ms : List ℕ} → ListsBelow P over n m Ms → m ≤ k → ((M : ℕ) → m ≤ M → M < k → Outcome P over n M → ⊥) → ListsBelow P over n k Ms
-  lists-reach {m} {k} l h f = record {
-    ascending = l .ascending;
-    only = λ M i. let w = l .only M i in ((let u = w .0 in omega arith), w .1);
-    all = λ M u o. ⊎-elim (λ v. l .all M v o) (λ v. absurd (f M v u o)) (cases-lt M m);
-  }
-
-  -- and they are all, if there is none from m on
-  pub lists-end : {m : ℕ} {Ms : List ℕ} → ListsBelow P over n m Ms → ((M : ℕ) → m ≤ M → Outcome P over n M → ⊥) → Lists P over n Ms
-  lists-end {m} l f = record {
-    ascending = l .ascending;
-    only = λ M i. l .only M i .1;
-    all = λ M o. ⊎-elim (λ v. l .all M v o) (λ v. absurd (f M v o)) (cases-lt M m);
-  }
-
   -- those below m, and then some of those from m on
   joined : (m k : ℕ) (Ms Ks : List ℕ) → ListsBelow P over n m Ms → m ≤ k → Ascending Ks
       → ((M : ℕ) → List·Memᴰ M Ks → (m ≤ M) × (M < k) × Outcome P over n M) → ((M : ℕ) → m ≤ M → M < k → Outcome P over n M → List·Memᴰ M Ks) → ListsBelow P over n k (Ms ++ Ks)
@@ -96,12 +73,6 @@ pub record Found (P : List Rule) (over : Overruling) (n m count : ℕ) (old new 
 
 pub found-start : {P : List Rule} {over : Overruling} {n : ℕ} (old : List ℕ) → Found P over n 0 0 old old
 found-start old = record { room = omega arith; found = lists-none; rest = refl }
-
-pub found-skip : {P : List Rule} {over : Overruling} {n m count : ℕ} {old new : List ℕ} → Found P over n m count old new → (Outcome P over n m → ⊥) → Found P over n (m + 1) count old new
-found-skip f h = record { room = f .room; found = lists-skip (f .found) h; rest = f .rest }
-
-pub found-reach : {P : List Rule} {over : Overruling} {n m k count : ℕ} {old new : List ℕ} → Found P over n m count old new → m ≤ k → ((M : ℕ) → m ≤ M → M < k → Outcome P over n M → ⊥) → Found P over n k count old new
-found-reach f h none = record { room = f .room; found = lists-reach (f .found) h none; rest = f .rest }
 
 pub found-more : {P : List Rule} {over : Overruling} {n m count : ℕ} {old new : List ℕ} → Found P over n m count old new → Outcome P over n m → count < length new → Found P over n (m + 1) (count + 1) old (set new count m)
 found-more {P} {over} {n} {m} {count} {old} {new} f o l = record {
