@@ -3,7 +3,7 @@ use mathlib.Core.Path.{_≡_, refl, sym, ap, subst, _∙_}
 use mathlib.Core.Logic.{⊎-elim}
 use mathlib.Core.Bool.{Bool, true, false, cond}
 use mathlib.Core.List.{List, [], _∷_, _++_, map}
-use Prim.Native.Nat.{ℕ, _+_, _-_, _<_, _≤_, min}
+use Prim.Native.Nat.{ℕ, _+_, _-_, _<_, _≤_}
 use native.Mathlib.Omega.{arith}
 use lib.Dec.{leb, ltb}
 use lib.ListN.{length}
@@ -50,8 +50,8 @@ module _ (m o : Meaning) (k : Kept m) where
       let p : Rule → Bool = λ r. leb s (r .sheet) in
       let Q = map (raised s) (o .rules) in
       ap length (kept-by-append p (m .rules) Q
-        ∙ ap (λ (P : List Rule). P ++ kept-by p Q) none-above
-        ∙ kept-all p Q (all-map (λ r. p r ≡ true) (raised s) (o .rules) (every _ (o .rules) (λ r. le-leb s (s + r .sheet) (omega arith)))))
+      ∙ ap (λ (P : List Rule). P ++ kept-by p Q) none-above
+      ∙ kept-all p Q (all-map (λ r. p r ≡ true) (raised s) (o .rules) (every _ (o .rules) (λ r. le-leb s (s + r .sheet) (omega arith)))))
       ∙ length-map (o .rules) (raised s)
 
   over-below : below-floor (over true m o) (m .sheets) ≡ length (m .rules)
@@ -59,9 +59,9 @@ module _ (m o : Meaning) (k : Kept m) where
       let s = m .sheets in
       let Q = map (raised s) (o .rules) in
       ap length (kept-by-append (under s) (m .rules) Q
-        ∙ ap (λ (R : List Rule). kept-by (under s) (m .rules) ++ R) (kept-none (under s) Q (all-map (λ r. under s r ≡ false) (raised s) (o .rules) (every _ (o .rules) (λ r. le-ltb (s + r .sheet) s (omega arith)))))
-        ∙ append-nil (kept-by (under s) (m .rules))
-        ∙ all-under s (omega arith))
+      ∙ ap (λ (R : List Rule). kept-by (under s) (m .rules) ++ R) (kept-none (under s) Q (all-map (λ r. under s r ≡ false) (raised s) (o .rules) (every _ (o .rules) (λ r. le-ltb (s + r .sheet) s (omega arith)))))
+      ∙ append-nil (kept-by (under s) (m .rules))
+      ∙ all-under s (omega arith))
 
   pub over-grounded : (b : Bool) → fits (shaped m) (shaped o) ≡ b → Grounded (over b m o) (m .sheets) (own-places (shaped m))
   over-grounded true e =
@@ -86,9 +86,9 @@ module _ (m o : Meaning) (k : Kept m) where
       let f = raised (m .sheets) in
       let y = ruled (o .sheets - 1) x in
       let e : P ++ map f (o .rules ++ (y ∷ [])) ≡ (P ++ map f (o .rules)) ++ (ruled (m .sheets + o .sheets - 1) x ∷ []) =
-          ap (λ (R : List Rule). P ++ R) (map-push f (o .rules) y)
-          ∙ sym (append-assoc P (map f (o .rules)) (f y ∷ []))
-          ∙ ap (λ (n : ℕ). (P ++ map f (o .rules)) ++ (ruled n x ∷ [])) s in
+      ap (λ (R : List Rule). P ++ R) (map-push f (o .rules) y)
+      ∙ sym (append-assoc P (map f (o .rules)) (f y ∷ []))
+      ∙ ap (λ (n : ℕ). (P ++ map f (o .rules)) ++ (ruled n x ∷ [])) s in
       ap (λ (R : List Rule). record { matters = m .matters; sheets = m .sheets + o .sheets; rules = R }) e
 
 kept-raised : (s t : ℕ) (Q : List Rule) → kept-by (under (s + t)) (map (raised s) Q) ≡ map (raised s) (kept-by (under t) Q)
@@ -107,9 +107,9 @@ over-withdrawn m o k l =
     let P = m .rules in
     let Q = map (raised (m .sheets)) (o .rules) in
     let e : P ++ map (raised (m .sheets)) (kept-by (under t) (o .rules)) ≡ kept-by (under (m .sheets + t)) (P ++ Q) =
-        sym (kept-by-append (under (m .sheets + t)) P Q
-        ∙ ap (λ (R : List Rule). R ++ kept-by (under (m .sheets + t)) Q) (all-under m o k (m .sheets + t) (omega arith))
-        ∙ ap (λ (R : List Rule). P ++ R) (kept-raised (m .sheets) t (o .rules))) in
+    sym (kept-by-append (under (m .sheets + t)) P Q
+    ∙ ap (λ (R : List Rule). R ++ kept-by (under (m .sheets + t)) Q) (all-under m o k (m .sheets + t) (omega arith))
+    ∙ ap (λ (R : List Rule). P ++ R) (kept-raised (m .sheets) t (o .rules))) in
     ap (λ (R : List Rule). record { matters = m .matters; sheets = m .sheets + t; rules = R }) e
     ∙ ap (λ (n : ℕ). record { matters = m .matters; sheets = n; rules = kept-by (under n) (P ++ Q) }) s
 
@@ -144,9 +144,10 @@ module _ (m o p : Meaning) (k : Kept m) (e : fits (shaped m) (shaped o) ≡ true
       let b = ap (λ (y : Meaning). y .sheets) pe in
       let c = ap (λ (y : Meaning). length (y .rules)) pe ∙ length-push (o .rules) (ruled (o .sheets - 1) x) in
       let n = f .few-sheets in
-      let v = over-used m o k in
-      (at-fit m o (λ g. first-met (lay-table g x) ≡ None) e (lay-fine (ground (over true m o) (m .sheets) (own-places (shaped m))) x (omega arith) t (omega arith)),
-      stood-next m o p (λ y. laid y x) e pe (record { same-matters = a; few-sheets = omega arith; few-rules = omega arith }) (over-laid m o k x s))
+      let v = over-used m o k in (
+        at-fit m o (λ g. first-met (lay-table g x) ≡ None) e (lay-fine (ground (over true m o) (m .sheets) (own-places (shaped m))) x (omega arith) t (omega arith)),
+        stood-next m o p (λ y. laid y x) e pe (record { same-matters = a; few-sheets = omega arith; few-rules = omega arith }) (over-laid m o k x s),
+      )
   lay-over x (Err f) s t l q =
       let h = fit-from (shaped m) (shaped o) e .same-matters in
       let v = used-all o in
@@ -162,9 +163,10 @@ module _ (m o p : Meaning) (k : Kept m) (e : fits (shaped m) (shaped o) ≡ true
       let c = ap (λ (y : Meaning). length (y .rules)) pe in
       let d = kept-fewer (under (o .sheets - 1)) (o .rules) in
       let n = f .few-sheets in
-      let l = f .few-rules in
-      (at-fit m o (λ g. first-met (withdraw-table g) ≡ None) e (unmet 12 None (lt-leb (m .sheets + o .sheets) (m .sheets) (omega arith)) refl),
-      stood-next m o p withdrawn e pe (record { same-matters = a; few-sheets = omega arith; few-rules = omega arith }) (over-withdrawn m o k s))
+      let l = f .few-rules in (
+        at-fit m o (λ g. first-met (withdraw-table g) ≡ None) e (unmet 12 None (lt-leb (m .sheets + o .sheets) (m .sheets) (omega arith)) refl),
+        stood-next m o p withdrawn e pe (record { same-matters = a; few-sheets = omega arith; few-rules = omega arith }) (over-withdrawn m o k s),
+      )
   withdraw-over (Err f) q =
       let pe : p ≡ o = ap (λ (g : Ground). g .meaning) (q .1) in
       (at-fit m o (λ g. first-met (withdraw-table g) ≡ Some (rack-number f)) e (same-test (m .sheets) (o .sheets) ∙ q .0), ap (stood m) pe)

@@ -1,8 +1,8 @@
 -- Own sheets on top of a rack keep to what every rack keeps to.
 use mathlib.Core.Path.{_≡_, refl, sym, ap, subst, _∙_}
-use mathlib.Core.Bool.{Bool, true, false, cond, _&&_}
+use mathlib.Core.Bool.{Bool, true, false, cond}
 use mathlib.Core.List.{List, [], _∷_, _++_, map}
-use Prim.Native.Nat.{ℕ, _+_, _-_, _<_, _≤_, min}
+use Prim.Native.Nat.{ℕ, _+_, _<_, _≤_}
 use native.Mathlib.Omega.{arith}
 use lib.Dec.{eqb, leb, ltb}
 use lib.ListN.{length, getD, take}
@@ -85,12 +85,12 @@ over-kept true m o k h e =
       few-sheets = f .few-sheets;
       few-rules = omega arith;
       sound = throughout (Sound n (s + o .sheets)) _ (all-append (Sound n (s + o .sheets)) P (map (raised s) Q)
-        (all-weaker (Sound n s) (Sound n (s + o .sheets)) (λ r t. (omega (arith, t .0), t .1, t .2, t .3)) P low)
-        (all-map (Sound n (s + o .sheets)) (raised s) Q (all-weaker (Sound n (o .sheets)) (λ r. Sound n (s + o .sheets) (raised s r)) (λ r t. (omega (arith, t .0), t .1, t .2, t .3)) Q high)));
+          (all-weaker (Sound n s) (Sound n (s + o .sheets)) (λ r t. (omega (arith, t .0), t .1, t .2, t .3)) P low)
+          (all-map (Sound n (s + o .sheets)) (raised s) Q (all-weaker (Sound n (o .sheets)) (λ r. Sound n (s + o .sheets) (raised s r)) (λ r t. (omega (arith, t .0), t .1, t .2, t .3)) Q high)));
       rising = rising-append s P (map (raised s) Q) (k .rising)
-        (all-weaker (Sound n s) (λ r. r .sheet ≤ s) (λ r t. omega (arith, t .0)) P low)
-        (all-map (λ r. s ≤ r .sheet) (raised s) Q (all-weaker (Sound n (o .sheets)) (λ r. s ≤ s + r .sheet) (λ r t. omega arith) Q high))
-        (rising-raised s Q (h .rising));
+          (all-weaker (Sound n s) (λ r. r .sheet ≤ s) (λ r t. omega (arith, t .0)) P low)
+          (all-map (λ r. s ≤ r .sheet) (raised s) Q (all-weaker (Sound n (o .sheets)) (λ r. s ≤ s + r .sheet) (λ r t. omega arith) Q high))
+          (rising-raised s Q (h .rising));
     }
 
 -- one own rule more of those to append

@@ -20,7 +20,9 @@ use rules::rule::Shape;
 use rules::table::Table;
 
 const MOST_RULES: u16 = 256;
+
 const MOST_SHEETS: u16 = 32;
+
 const PLACES: u16 = 32;
 
 // Own sheets on any rack, in a pocket rack that counts its sheets from 0.
@@ -137,7 +139,10 @@ fn append(table: &mut Table, own: &[Rule], floor: u8)
     ensures { λ _. ⌜ held (now (table .exit)) ≡ held (now (table .entry)) ++ map (raised floor) (now (own .entry)) ⌝ }
 {
     for rule in own {
-        table.push(Rule { sheet: floor + rule.sheet, ..*rule });
+        table.push(Rule {
+            sheet: floor + rule.sheet,
+            ..*rule
+        });
     }
 }
 

@@ -41,20 +41,18 @@ pub impl<R: Rack> Rack for Withheld<R> as WithheldReads {
     }
 
     fn survey(&self) -> (Shape, Table) {
-        show(self.below.survey(), &Off { sheet: self.sheet })
+        show(self.below.survey(), &Off(self.sheet))
     }
 }
 
 // The rules that are off a sheet.
 #[derive(Clone, Copy)]
-struct Off {
-    sheet: u8,
-}
+struct Off(u8);
 
 impl Choice for Off as ByOff {
-    ghost chosen = { λ x. off-sheet (x .sheet) };
+    ghost chosen = { λ x. off-sheet (x .0) };
 
     fn takes(&self, rule: Rule) -> bool {
-        rule.sheet != self.sheet
+        rule.sheet != self.0
     }
 }

@@ -51,13 +51,45 @@ fn later_sheet_overrules() -> Result<(), Fail> {
 #[test]
 fn higher_grade_overrules() -> Result<(), Fail> {
     let rack = contradiction()?;
-    check_eq(listed(&rack, &Graded { grades: graded(2, 1) }), (1, 1))?;
-    check_eq(listed(&rack, &GradedPosition { grades: graded(2, 1) }), (1, 1))
+    check_eq(
+        listed(
+            &rack,
+            &Graded {
+                grades: graded(2, 1),
+            },
+        ),
+        (1, 1),
+    )?;
+    check_eq(
+        listed(
+            &rack,
+            &GradedPosition {
+                grades: graded(2, 1),
+            },
+        ),
+        (1, 1),
+    )
 }
 
 #[test]
 fn equal_grades() -> Result<(), Fail> {
     let rack = contradiction()?;
-    check_eq(listed(&rack, &Graded { grades: graded(1, 1) }), (0, 9))?;
-    check_eq(listed(&rack, &GradedPosition { grades: graded(1, 1) }), (1, 0))
+    check_eq(
+        listed(
+            &rack,
+            &Graded {
+                grades: graded(1, 1),
+            },
+        ),
+        (0, 9),
+    )?;
+    check_eq(
+        listed(
+            &rack,
+            &GradedPosition {
+                grades: graded(1, 1),
+            },
+        ),
+        (1, 0),
+    )
 }

@@ -4,11 +4,27 @@ use racks::file::FileRack;
 use rules::record::Record;
 
 // The facts "matter 0" and "not matter 0".
-pub const YES_0: Record = Record { head: 0, sign: 1, yes: 0, no: 0 };
-pub const NO_0: Record = Record { head: 0, sign: 0, yes: 0, no: 0 };
+pub const YES_0: Record = Record {
+    head: 0,
+    sign: 1,
+    yes: 0,
+    no: 0,
+};
+
+pub const NO_0: Record = Record {
+    head: 0,
+    sign: 0,
+    yes: 0,
+    no: 0,
+};
 
 // A record that is no rule where there are fewer than 3 matters.
-pub const BAD: Record = Record { head: 2, sign: 1, yes: 0, no: 0 };
+pub const BAD: Record = Record {
+    head: 2,
+    sign: 1,
+    yes: 0,
+    no: 0,
+};
 
 // The number of a refusal, and 0 for none.
 pub fn number(answer: Result<(), RackFault>) -> u8 {

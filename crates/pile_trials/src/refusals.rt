@@ -40,9 +40,23 @@ fn pocket_rack() -> Result<(), Fail> {
     check_eq(number(rack.lay(YES_0)), 14)?;
     check_eq(begin_all(&mut rack, 31), 0)?;
     check_eq(number(rack.begin()), 11)?;
-    check_eq(rack.shape(), Shape { matters: 2, sheets: 32, rules: 64 })?;
+    check_eq(
+        rack.shape(),
+        Shape {
+            matters: 2,
+            sheets: 32,
+            rules: 64,
+        },
+    )?;
     check_eq(number(rack.withdraw()), 0)?;
-    check_eq(rack.shape(), Shape { matters: 2, sheets: 31, rules: 64 })
+    check_eq(
+        rack.shape(),
+        Shape {
+            matters: 2,
+            sheets: 31,
+            rules: 64,
+        },
+    )
 }
 
 // Two matters, and one sheet with the rule "matter 1".
@@ -54,7 +68,14 @@ fn pile_of_three_layers() -> Result<(), Fail> {
     check_eq(number(lower.begin()), 0)?;
     check_eq(number(lower.lay(NO_0)), 0)?;
     let mut pile = Amended::new(Withheld::new(lower, 0));
-    check_eq(pile.shape(), Shape { matters: 2, sheets: 2, rules: 1 })?;
+    check_eq(
+        pile.shape(),
+        Shape {
+            matters: 2,
+            sheets: 2,
+            rules: 1,
+        },
+    )?;
     check_eq(number(pile.withdraw()), 12)?;
     check_eq(number(pile.lay(BAD)), 12)?;
     check_eq(number(pile.begin()), 0)?;
@@ -64,9 +85,34 @@ fn pile_of_three_layers() -> Result<(), Fail> {
     check_eq(number(pile.lay(YES_0)), 14)?;
     check_eq(begin_all(&mut pile, 29), 0)?;
     check_eq(number(pile.begin()), 11)?;
-    check_eq(pile.shape(), Shape { matters: 2, sheets: 32, rules: 33 })?;
+    check_eq(
+        pile.shape(),
+        Shape {
+            matters: 2,
+            sheets: 32,
+            rules: 33,
+        },
+    )?;
     check_eq(pile.read().len(), 33)?;
-    check_eq(pile.rule(0), Some(Rule { sheet: 1, head: 0, sign: Sign::No, yes: 0, no: 0 }))?;
-    check_eq(pile.rule(1), Some(Rule { sheet: 2, head: 0, sign: Sign::Yes, yes: 0, no: 0 }))?;
+    check_eq(
+        pile.rule(0),
+        Some(Rule {
+            sheet: 1,
+            head: 0,
+            sign: Sign::No,
+            yes: 0,
+            no: 0,
+        }),
+    )?;
+    check_eq(
+        pile.rule(1),
+        Some(Rule {
+            sheet: 2,
+            head: 0,
+            sign: Sign::Yes,
+            yes: 0,
+            no: 0,
+        }),
+    )?;
     check_eq(pile.rule(33), None)
 }

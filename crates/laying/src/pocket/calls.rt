@@ -14,7 +14,9 @@ use rules::rule::Shape;
 use rules::table::Table;
 
 const MOST_MATTERS: u8 = 16;
+
 const MOST_SHEETS: u8 = 32;
+
 const PLACES: usize = 64;
 
 impl PocketRack {
@@ -100,21 +102,19 @@ pub impl OpenRack for PocketRack as PocketLays {
             return Err(RackFault::NoSheet);
         }
         self.sheets -= 1;
-        self.table = sift(&self.table, &Lower { sheets: self.sheets });
+        self.table = sift(&self.table, &Lower(self.sheets));
         Ok(())
     }
 }
 
 // The rules of the first so many sheets.
 #[derive(Clone, Copy)]
-struct Lower {
-    sheets: u8,
-}
+struct Lower(u8);
 
 impl Choice for Lower as ByLower {
-    ghost chosen = { λ x. under (x .sheets) };
+    ghost chosen = { λ x. under (x .0) };
 
     fn takes(&self, rule: Rule) -> bool {
-        rule.sheet < self.sheets
+        rule.sheet < self.0
     }
 }

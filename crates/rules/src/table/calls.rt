@@ -2,7 +2,7 @@ ghost use mathlib.Core.Path.{_≡_};
 ghost use mathlib.Core.Bool.{cond};
 ghost use mathlib.Core.List.{[], _∷_, _++_};
 ghost use lib.Dec.{ltb};
-ghost use lib.ListN.{length, take};
+ghost use lib.ListN.{length};
 ghost use Rattle.rules.specs.Held.{held};
 use crate::rule::Rule;
 use crate::rule::Sign;
@@ -42,13 +42,4 @@ impl Table {
         self.rules[at] = rule;
         self.len = at + 1;
         true
-    }
-    // Keeps the first `len` rules.
-    pub fn truncate(&mut self, len: usize)
-        ensures { λ _. ⌜ held (now (self .exit)) ≡ take len (held (now (self .entry))) ⌝ }
-    {
-        if len < self.len {
-            self.len = len;
-        }
-    }
-}
+    }}

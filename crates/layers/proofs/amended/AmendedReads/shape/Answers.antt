@@ -1,8 +1,4 @@
-use mathlib.Core.Path.{ap, _∙_}
-use Rattle.rules.specs.declared.rule.Shape.{Shape}
-use Rattle.racks.specs.Meaning.{shaped}
 use Rattle.laying.specs.Pocketing.{pocket-meaning}
-use Rattle.layers.specs.Over.{fits, shape-over}
 use Rattle.layers.proofs.Over.{shaped-amended}
 use Rattle.layers.proofs.amended.AmendedReads.shape.Needs as need
 

@@ -28,10 +28,22 @@ ghost-self c =
     let h = c .in-Some .ensures tt in
     let e = laid-push (c .push .result) P (held (c .push .last .self)) (c .in-Some .rule) (ruled (s .sheets - 1) x) (omega arith) (c .push .ensures .value) (c .push .ensures .after) (h .1) in
     let n = ap length e in
-    let k = length-push P (ruled (s .sheets - 1) x) in
-    (s .some, (s .few, (s .low, (omega arith,
-    (subst (Throughout (Sound (s .matters) (s .sheets))) (sym e) (sound-push (s .matters) (s .sheets) P x (omega arith) (h .0) (s .sound)),
-    (subst Rising (sym e) (rising-push (s .matters) (s .sheets) P x (omega arith) (s .sound) (s .rising)), tt))))))
+    let k = length-push P (ruled (s .sheets - 1) x) in (
+      s .some,
+      (
+        s .few,
+        (
+          s .low,
+          (
+            omega arith,
+            (
+              subst (Throughout (Sound (s .matters) (s .sheets))) (sym e) (sound-push (s .matters) (s .sheets) P x (omega arith) (h .0) (s .sound)),
+              (subst Rising (sym e) (rising-push (s .matters) (s .sheets) P x (omega arith) (s .sound) (s .rising)), tt),
+            ),
+          ),
+        ),
+      ),
+    )
 
 pub returns : need.returns
 returns c =

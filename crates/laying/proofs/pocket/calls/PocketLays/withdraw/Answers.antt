@@ -16,7 +16,19 @@ ghost-self c =
     let t = s .sheets - 1 in
     let e = c .sift-self .ensures in
     let n = ap length e in
-    let k = kept-fewer (under t) P in
-    (s .some, (s .few, (omega arith, (omega arith,
-    (subst (Throughout (Sound (s .matters) t)) (sym e) (sound-under (s .matters) (s .sheets) t P (s .sound)),
-    (subst Rising (sym e) (rising-kept (under t) P (s .rising)), tt))))))
+    let k = kept-fewer (under t) P in (
+      s .some,
+      (
+        s .few,
+        (
+          omega arith,
+          (
+            omega arith,
+            (
+              subst (Throughout (Sound (s .matters) t)) (sym e) (sound-under (s .matters) (s .sheets) t P (s .sound)),
+              (subst Rising (sym e) (rising-kept (under t) P (s .rising)), tt),
+            ),
+          ),
+        ),
+      ),
+    )
