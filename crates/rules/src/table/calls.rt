@@ -42,4 +42,5 @@ impl Table {
         self.rules[at] = rule;
         self.len = at + 1;
         true
-    }}
+    }
+}
