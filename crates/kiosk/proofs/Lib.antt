@@ -1,0 +1,6 @@
+pub mod Kept
+pub mod Sheets
+pub mod Facts
+pub mod Topped
+pub mod Steps
+pub mod Shown

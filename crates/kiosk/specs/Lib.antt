@@ -1,0 +1,4 @@
+pub mod Faults
+pub mod Slip
+pub mod Book
+pub mod Standing

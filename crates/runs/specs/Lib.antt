@@ -1,0 +1,3 @@
+pub mod Purse
+pub mod Running
+pub mod Comparing
