@@ -6,14 +6,19 @@ use native.Mathlib.Omega.{arith}
 use Rattle.rules.specs.declared.rule.Rule.{Rule}
 use Rattle.rules.specs.Semantics.{Mem, LiteralSet, Overruling, Lists, Rests}
 use Rattle.rules.proofs.Bitwise.{not-in-zero}
-use Rattle.rules.proofs.Computed.{outcomes-list}
+use Rattle.rules.proofs.Computed.{outcomes, outcomes-list}
+use Rattle.kiosk.specs.declared.call.Call.{Call}
+use Rattle.kiosk.specs.declared.call.Call.the-variants.{Open, Fact, End}
+use Rattle.kiosk.specs.Book.{Book}
+use Rattle.kiosk.specs.Standing.{shown}
+use Rattle.runs.specs.Running.{after}
 use Rattle.rules.proofs.Rounds.{rests-by, chain}
 use Rattle.rules.proofs.Theory.{rests-well-founded}
 use Rattle.orders.specs.Overrules.{by-position, by-grade, by-grade-then-position}
 use Rattle.evaluator.specs.declared.answer.Reading.{Reading}
 use Rattle.evaluator.specs.declared.answer.Reading.the-variants.{Undefined, False, Contradictory}
 use Rattle.evaluator.specs.Matters.{Reads, ReadingOf}
-use Rattle.examples.specs.Examples.{Examples, denied-by-default, contradiction, contradiction-settled, either-or, denied-consequence, denied-consequence-tautology, granted-and-denied, no-way-out, denied-on-a-fact, denied-with-the-fact}
+use Rattle.examples.specs.Examples.{Examples, denied-by-default, contradiction, contradiction-settled, either-or, denied-consequence, denied-consequence-tautology, granted-and-denied, no-way-out, denied-on-a-fact, granted}
 
 read-of : {P : List Rule} {over : Overruling} {n k a : ℕ} {X : LiteralSet} (r : Reading) → Rests P over n k X → Reads X a r → ReadingOf P over n a r
 read-of {X} r s h = record { model = X; well-founded = rests-well-founded s; reads = h }
@@ -23,6 +28,9 @@ either-or-list = outcomes-list either-or by-position 2
 
 no-way-out-list : Lists no-way-out by-position 1 []
 no-way-out-list = outcomes-list no-way-out by-position 1
+
+then : (b : Book) (calls : List Call) → Lists (shown (after b calls) .rules) by-position (after b calls .matters) (outcomes (shown (after b calls) .rules) by-position (after b calls .matters))
+then b calls = outcomes-list (shown (after b calls) .rules) by-position (after b calls .matters)
 
 pub examples : Examples
 examples = record {
@@ -50,8 +58,9 @@ examples = record {
   no-way-out-lists = no-way-out-list;
   no-way-out-reads = read-of Undefined (rests-by no-way-out by-position 1 0 refl) (not-in-zero 0, not-in-zero 0);
   no-way-out-rules = ((λ w. List·Memᴰ·not-nil (no-way-out-list .all (w .outcome) (w .is-one))), (λ w. List·Memᴰ·not-nil (no-way-out-list .all (w .outcome) (w .is-one))));
-  without-the-fact = outcomes-list denied-on-a-fact by-position 2;
-  with-the-fact = outcomes-list denied-with-the-fact by-position 2;
-  fact-overrules-the-sheet-below = outcomes-list granted-and-denied by-position 1;
+  without-a-session = then denied-on-a-fact [];
+  with-the-fact = then denied-on-a-fact (Open ∷ (Fact 1 1 ∷ []));
+  after-the-end = then denied-on-a-fact (Open ∷ (Fact 1 1 ∷ (End ∷ [])));
+  fact-overrules-the-sheet-below = then granted (Open ∷ (Fact 0 0 ∷ []));
   one-place-too-few = record { outcomes = 1 ∷ (2 ∷ []); listed = either-or-list; too-many = omega arith; lowest = refl };
 }

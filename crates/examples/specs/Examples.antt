@@ -10,6 +10,12 @@ use Rattle.evaluator.specs.declared.answer.Reading.the-variants.{Undefined, Fal
 use Rattle.evaluator.specs.declared.answer.Ruling.the-variants.{Varies, NoOutcome}
 use Rattle.evaluator.specs.Answers.{Overfull}
 use Rattle.evaluator.specs.Matters.{ReadingOf, RulingOf}
+use Rattle.std.specs.declared.option.Option.the-variants.{None}
+use Rattle.kiosk.specs.declared.call.Call.{Call}
+use Rattle.kiosk.specs.declared.call.Call.the-variants.{Open, Fact, End}
+use Rattle.kiosk.specs.Book.{Book, Sheet, Clause}
+use Rattle.kiosk.specs.Standing.{shown}
+use Rattle.runs.specs.Running.{after}
 
 -- a rule: its sheet, its head with the sign, and the yes set and the no set of its body
 abbrev pub rule : ℕ → Sign → ℕ → ℕ → ℕ → Rule
@@ -47,13 +53,25 @@ granted-and-denied = rule 0 Yes 0 0 0 ∷ (rule 1 No 0 0 0 ∷ [])
 abbrev pub no-way-out : List Rule
 no-way-out = rule 0 Yes 0 0 0b1 ∷ []
 
--- {0.} {no 0 if 1.}
-abbrev pub denied-on-a-fact : List Rule
-denied-on-a-fact = rule 0 Yes 0 0 0 ∷ (rule 1 No 0 0b10 0 ∷ [])
+-- Kiosks: the book at the set-up, and the calls since
 
--- the same and a third sheet {1.}
-abbrev pub denied-with-the-fact : List Rule
-denied-with-the-fact = rule 0 Yes 0 0 0 ∷ (rule 1 No 0 0b10 0 ∷ (rule 2 Yes 1 0 0 ∷ []))
+abbrev pub clause : Sign → ℕ → ℕ → ℕ → Clause
+clause g h y n = record { head = h; sign = g; yes = y; no = n }
+
+abbrev pub book : ℕ → List Sheet → Book
+book n sheets = record { matters = n; floor = 0; places = 64; sheets = sheets; slip = None }
+
+-- {0.} {no 0 if 1.}
+abbrev pub denied-on-a-fact : Book
+denied-on-a-fact = book 2 ((clause Yes 0 0 0 ∷ []) ∷ ((clause No 0 0b10 0 ∷ []) ∷ []))
+
+-- {0.}
+abbrev pub granted : Book
+granted = book 1 ((clause Yes 0 0 0 ∷ []) ∷ [])
+
+-- the list of what the kiosk then shows
+abbrev pub ListsThen : Book → List Call → List ℕ → Type 0
+ListsThen b calls Ms = Lists (shown (after b calls) .rules) by-position (after b calls .matters) Ms
 
 -- readings and rulings are of matter 0
 pub record Examples : Type 0 where
@@ -78,9 +96,11 @@ pub record Examples : Type 0 where
   pub no-way-out-lists : Lists no-way-out by-position 1 []
   pub no-way-out-reads : ReadingOf no-way-out by-position 1 0 Undefined
   pub no-way-out-rules : RulingOf no-way-out by-position 1 0 NoOutcome
-  pub without-the-fact : Lists denied-on-a-fact by-position 2 (1 ∷ [])
-  -- a session's facts are one more sheet on top
-  pub with-the-fact : Lists denied-with-the-fact by-position 2 (2 ∷ [])
-  pub fact-overrules-the-sheet-below : Lists granted-and-denied by-position 1 (0 ∷ [])
+  -- a reader's fact counts while the session is open, and not after
+  pub without-a-session : ListsThen denied-on-a-fact [] (1 ∷ [])
+  pub with-the-fact : ListsThen denied-on-a-fact (Open ∷ (Fact 1 1 ∷ [])) (2 ∷ [])
+  pub after-the-end : ListsThen denied-on-a-fact (Open ∷ (Fact 1 1 ∷ (End ∷ []))) (1 ∷ [])
+  -- the slip is a sheet of its own, on top of the last
+  pub fact-overrules-the-sheet-below : ListsThen granted (Open ∷ (Fact 0 0 ∷ [])) (0 ∷ [])
   -- with one list place
   pub one-place-too-few : Overfull either-or by-position 2 (1 ∷ [])
