@@ -1,22 +1,22 @@
 -- The slip's facts.
 use mathlib.Core.Path.{_≡_, refl, sym, ap, subst, _∙_}
-use mathlib.Core.Logic.{_⊎_, inl, inr, ⊎-elim}
-use mathlib.Core.List.{List, [], _∷_, _++_, map}
-use mathlib.Core.Bool.{Bool, true, false, cond, _&&_}
+use mathlib.Core.Logic.{_⊎_, ⊎-elim}
+use mathlib.Core.List.{List, [], _∷_, _++_}
+use mathlib.Core.Bool.{true, false}
 use Prim.Native.Nat.{ℕ, zero, suc, _+_, _-_, _<_, _≤_}
 use native.Mathlib.Omega.{arith}
 use native.Mathlib.Numerals.{add-one}
-use lib.ListN.{length, getD, set}
-use lib.Dec.{ltb, leb, eqb}
+use lib.ListN.{length, getD}
+use lib.Dec.{ltb, eqb}
 use Rattle.std.specs.shelf.Lists.{kept-by}
 use Rattle.std.specs.declared.option.Option.the-variants.{Some, None}
 use Rattle.std.proofs.shelf.Lists.{getD-append-left, getD-push, length-push, length-set}
-use Rattle.std.proofs.shelf.Tests.{lt-ltb, le-ltb, ne-eqb, eq-eqb, cases-lt, cases-eq, cases-bool, eqb-true}
+use Rattle.std.proofs.shelf.Tests.{lt-ltb, le-ltb, ne-eqb, eq-eqb, cases-lt, cases-bool, eqb-true}
 use Rattle.rules.specs.declared.rule.Sign.{Sign}
 use Rattle.kiosk.specs.declared.slip.Fact.{Fact}
 use Rattle.kiosk.specs.Slip.{no-fact, re-signed, Finds, Known, Apart}
 use Rattle.kiosk.specs.Book.{names, noted}
-use Rattle.kiosk.proofs.Kept.{kept-nothing, kept-same, kept-split, bit}
+use Rattle.kiosk.proofs.Kept.{kept-nothing, kept-split, bit}
 
 pub not-named : (fs : List Fact) (a : ℕ) → Finds fs a None → names fs a ≡ false
 not-named [] a h = refl

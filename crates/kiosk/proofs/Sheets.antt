@@ -1,19 +1,18 @@
 -- The sheets of a rack's rules, after each call.
 use mathlib.Core.Path.{_≡_, refl, sym, ap, subst, _∙_}
-use mathlib.Core.Logic.{_⊎_, inl, inr, ⊎-elim}
+use mathlib.Core.Logic.{_⊎_, ⊎-elim}
 use mathlib.Core.List.{List, [], _∷_, _++_, map}
-use mathlib.Core.Bool.{Bool, true, false, cond, _&&_}
+use mathlib.Core.Bool.{Bool, true, false, _&&_}
 use Prim.Native.Nat.{ℕ, zero, suc, _+_, _-_, _<_, _≤_}
 use native.Mathlib.Omega.{arith}
 use native.Mathlib.Numerals.{add-one}
 use lib.ListN.{length, getD, drop}
 use lib.Dec.{ltb, leb, eqb}
-use Rattle.std.specs.Iters.{counting}
 use Rattle.std.specs.shelf.Lists.{kept-by}
 use Rattle.std.proofs.shelf.Lists.{length-map, append-nil, drop-append-le, drop-all, map-append}
 use Rattle.std.proofs.shelf.Counted.{length-map-counting, map-counting-more}
 use Rattle.std.proofs.shelf.Elements.{kept-by-append}
-use Rattle.std.proofs.shelf.Tests.{lt-ltb, le-ltb, le-leb, ne-eqb, eq-eqb, ltb-false, ltb-true, cases-lt, cases-bool, cond-true, cond-false, and-left, and-right, lt-leb}
+use Rattle.std.proofs.shelf.Tests.{lt-ltb, le-ltb, ne-eqb, eq-eqb, cases-lt, and-left, and-right, lt-leb}
 use Rattle.rules.specs.declared.rule.Rule.{Rule}
 use Rattle.racks.specs.Meaning.{Throughout}
 use Rattle.rules.specs.Parts.{no-rule}

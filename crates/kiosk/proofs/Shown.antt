@@ -1,28 +1,27 @@
 -- A kiosk shows what its book shows.
 use mathlib.Core.Path.{_≡_, refl, sym, ap, subst, _∙_}
-use mathlib.Core.Logic.{_⊎_, inl, inr, ⊎-elim}
+use mathlib.Core.Logic.{_⊎_, ⊎-elim}
 use mathlib.Core.List.{List, [], _∷_, _++_, map, append-assoc}
-use mathlib.Core.Bool.{Bool, true, false, cond}
-use Prim.Native.Nat.{ℕ, zero, suc, _+_, _-_, _<_, _≤_}
+use mathlib.Core.Bool.{Bool, true, false}
+use Prim.Native.Nat.{ℕ, zero, suc, _+_, _-_, _<_}
 use native.Mathlib.Omega.{arith}
 use native.Mathlib.Numerals.{add-one}
 use lib.ListN.{length, getD}
-use lib.Dec.{ltb, leb, eqb}
+use lib.Dec.{ltb, eqb}
 use Rattle.std.specs.shelf.Lists.{kept-by}
 use Rattle.std.specs.Of.Vec.{vec-items}
-use Rattle.std.specs.declared.option.Option.the-variants.{Some, None}
 use Rattle.std.proofs.shelf.Lists.{append-nil, length-append}
-use Rattle.std.proofs.shelf.Tests.{lt-ltb, le-ltb, ne-eqb, eq-eqb, cases-lt, cases-bool, cases-order, eqb-true}
+use Rattle.std.proofs.shelf.Tests.{lt-ltb, le-ltb, ne-eqb, eq-eqb, cases-bool, cases-order, eqb-true}
 use Rattle.rules.specs.declared.rule.Rule.{Rule}
 use Rattle.racks.specs.Meaning.{Meaning, Kept, Throughout, Rising}
 use Rattle.rules.specs.Parts.{no-rule}
 use Rattle.laying.specs.Laying.{Ground, ground, under}
 use Rattle.kiosk.specs.declared.kiosk.Kiosk.{Kiosk}
 use Rattle.kiosk.specs.declared.slip.Fact.{Fact}
-use Rattle.kiosk.specs.Book.{Book, Sheet, Clause}
+use Rattle.kiosk.specs.Book.{Sheet}
 use Rattle.kiosk.specs.Slip.{fact-rule}
-use Rattle.kiosk.specs.Standing.{plain, on, on-sheet, sheet-of, sheets-of, numbered, fact-clause, slip-sheets, slip-of, booked, book-of, kiosk-seated, kiosk-meaning, shown, topped}
-use Rattle.kiosk.proofs.Kept.{kept-nothing, kept-same}
+use Rattle.kiosk.specs.Standing.{plain, on, on-sheet, sheet-of, sheets-of, numbered, fact-clause, slip-of, booked, book-of, kiosk-seated, kiosk-meaning, shown, topped}
+use Rattle.kiosk.proofs.Kept.{kept-nothing}
 use Rattle.kiosk.proofs.Steps.{seated-parts}
 use Rattle.kiosk.proofs.Topped.{topped-kept}
 use Rattle.kiosk.proofs.Sheets.{length-sheets, sheets-more}

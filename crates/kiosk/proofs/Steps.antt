@@ -1,18 +1,17 @@
 -- From what a rack's call says to the book's step.
-use mathlib.Core.Path.{_≡_, refl, sym, ap, subst, _∙_}
+use mathlib.Core.Path.{_≡_, refl, sym, ap, _∙_}
 use mathlib.Core.Logic.{⊎-elim}
-use mathlib.Core.List.{List, [], _∷_, _++_, map}
+use mathlib.Core.List.{List, [], _∷_, _++_}
 use mathlib.Core.Bool.{Bool, true, false, not, cond, _&&_}
 use Prim.Native.Nat.{ℕ, _+_, _-_, _^_, _<_, _≤_}
 use native.Mathlib.Omega.{arith}
 use lib.ListN.{length, drop}
 use lib.Dec.{ltb, leb, eqb}
 use lib.Pow.{pow-pos}
-use Rattle.std.specs.declared.option.Option.{Option}
 use Rattle.std.specs.declared.option.Option.the-variants.{Some, None}
 use Rattle.std.specs.declared.result.Result.{Result}
 use Rattle.std.specs.declared.result.Result.the-variants.{Ok, Err}
-use Rattle.std.proofs.shelf.Tests.{lt-ltb, le-ltb, eq-eqb, le-leb, lt-leb, and-from, and-parts, eqb-true, ltb-true, leb-true, true≢false, false≢true, not-from-true, not-from-false}
+use Rattle.std.proofs.shelf.Tests.{lt-ltb, eq-eqb, le-leb, lt-leb, and-from, and-parts, eqb-true, ltb-true, leb-true, true≢false, false≢true}
 use Rattle.rules.specs.declared.record.Record.{Record}
 use Rattle.rules.specs.declared.rule.Shape.{Shape}
 use Rattle.rules.specs.Records.{good, ruled, signed}
@@ -22,14 +21,14 @@ use Rattle.racks.specs.Meaning.{Meaning, Kept, shaped}
 use Rattle.laying.specs.declared.fault.RackFault.{RackFault}
 use Rattle.laying.specs.declared.fault.RackFault.the-variants.{Matters, TooManySheets, NoSheet, BadRule, PlacesFull}
 use Rattle.laying.specs.Faults.{rack-number}
-use Rattle.laying.specs.Laying.{Ground, used, begun, laid, withdrawn, over-again, Begins, Lays, Withdraws}
+use Rattle.laying.specs.Laying.{Ground, used, Begins, Lays, Withdraws}
 use Rattle.kiosk.specs.declared.call.Call.{Call}
-use Rattle.kiosk.specs.declared.call.Call.the-variants.{Begin, Lay, Withdraw, Open, Fact as Stating, End}
+use Rattle.kiosk.specs.declared.call.Call.the-variants.{Begin, Lay, Withdraw, Open, Fact as Stating}
 use Rattle.kiosk.specs.declared.fault.KioskFault.{KioskFault}
 use Rattle.kiosk.specs.declared.fault.KioskFault.the-variants.{Rack, NoRoom, BadFact, RulesFull}
 use Rattle.kiosk.specs.declared.slip.Fact.{Fact}
 use Rattle.kiosk.specs.Slip.{Finds, re-signed}
-use Rattle.kiosk.specs.Book.{Book, Sheet, Stepped, Table, judged, step, written, Does, total, names, with-sheets}
+use Rattle.kiosk.specs.Book.{Book, Stepped, Table, judged, step, written, Does, total, with-sheets}
 use Rattle.kiosk.specs.Standing.{booked, sheets-of, slip-of, seated}
 use Rattle.kiosk.proofs.Facts.{not-named, named, noted-found, noted-new}
 use Rattle.kiosk.proofs.Sheets.{length-sheets, sheets-begun, sheets-laid, sheets-withdrawn, used-sheets, total-sheets}

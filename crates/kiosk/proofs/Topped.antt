@@ -1,9 +1,9 @@
 -- A slip on a rack's meaning.
 use mathlib.Core.Path.{_≡_, refl, sym, ap, subst, _∙_}
-use mathlib.Core.Logic.{_⊎_, inl, inr, ⊎-elim}
+use mathlib.Core.Logic.{_⊎_, ⊎-elim}
 use mathlib.Core.List.{List, [], _∷_, _++_, map}
-use mathlib.Core.Bool.{Bool, true, false, cond}
-use Prim.Native.Nat.{ℕ, zero, suc, _+_, _-_, _^_, _<_, _≤_}
+use mathlib.Core.Bool.{Bool, true, false}
+use Prim.Native.Nat.{ℕ, zero, suc, _+_, _-_, _<_, _≤_}
 use native.Mathlib.Omega.{arith}
 use lib.ListN.{length, getD, take}
 use lib.Pow.{pow-pos}
@@ -15,7 +15,7 @@ use Rattle.std.proofs.shelf.Lists.{length-append, length-map, getD-append-left,
 use Rattle.std.proofs.shelf.Tests.{cases-lt, true≢false, false≢true}
 use Rattle.rules.specs.declared.rule.Rule.{Rule}
 use Rattle.rules.specs.declared.rule.Shape.{Shape}
-use Rattle.racks.specs.Meaning.{Meaning, Kept, Sound, Throughout, Rising, shaped}
+use Rattle.racks.specs.Meaning.{Meaning, Kept, Sound, shaped}
 use Rattle.rules.specs.Parts.{no-rule}
 use Rattle.kiosk.specs.declared.slip.Fact.{Fact}
 use Rattle.kiosk.specs.Slip.{Known, no-fact, fact-rule}

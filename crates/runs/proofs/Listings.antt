@@ -1,5 +1,5 @@
 -- A listing of what a kiosk shows is one of its book.
-use mathlib.Core.Path.{_≡_, refl, sym, ap, subst, _∙_}
+use mathlib.Core.Path.{_≡_, ap, subst, _∙_}
 use mathlib.Core.List.{List, [], _∷_, _++_, List·Memᴰ, List·Memᴰ·head, List·Memᴰ·tail, List·Memᴰ·not-nil, List·Memᴰ·cases-cons}
 use mathlib.Core.Logic.{⊎-elim}
 use Prim.Native.Nat.{ℕ, zero, suc, _<_}
@@ -10,7 +10,7 @@ use Rattle.std.specs.declared.result.Result.{Result}
 use Rattle.std.specs.declared.result.Result.the-variants.{Ok, Err}
 use Rattle.std.proofs.shelf.Lists.{take-append-le, take-all}
 use Rattle.rules.specs.declared.rule.Rule.{Rule}
-use Rattle.rules.specs.Semantics.{LiteralSet, Overruling, Total, Formed, Outcome, WellFounded}
+use Rattle.rules.specs.Semantics.{LiteralSet, Overruling, Total, Outcome, WellFounded}
 use Rattle.rules.proofs.Computed.{each-place}
 use Rattle.rules.proofs.Theory.{outcome-between}
 use Rattle.racks.specs.Meaning.{Meaning, Kept}
@@ -42,11 +42,11 @@ listing m over old new r kept total h X w M i =
     let formed = each-place (m .rules) (λ (q : Rule). q .head < m .matters) (λ k l. kept .sound k l .1) in
     outcome-between total formed (told-outcome (m .rules) over (m .matters) old new r h M i) w
 
-pub listing-of : (m : Meaning) (b : Book) (over : Overruling) (old new : List ℕ) (r : Result ℕ EvaluatorFault) → Kept m → Total over → m ≡ shown b → Listed (m .rules) over (m .matters) old new r → Listing over b old new r
-listing-of m b over old new r kept total e h =
+pub listing-of : (m : Meaning) (b : Book) (over : Overruling) (old new : List ℕ) (r : Result ℕ EvaluatorFault) → Kept m → Total over → m ≡ shown b → length new ≡ length old → Listed (m .rules) over (m .matters) old new r → Listing over b old new r
+listing-of m b over old new r kept total e n h =
     let k = subst Kept e kept in
     let l = subst (λ (x : Meaning). Listed (x .rules) over (x .matters) old new r) e h in
-    record { listed = l; agrees = listing (shown b) over old new r k total l }
+    record { listed = l; places-kept = n; agrees = listing (shown b) over old new r k total l }
 
 -- the list behind the places
 pub listing-moved : {over : Overruling} {b : Book} {old old′ new new′ : List ℕ} {r : Result ℕ EvaluatorFault} → old ≡ old′ → new ≡ new′ → Listing over b old new r → Listing over b old′ new′ r

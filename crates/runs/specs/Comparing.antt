@@ -1,7 +1,7 @@
 -- Two books that differ only in tautologies.
 use mathlib.Core.Path.{_≡_}
 use mathlib.Core.Bool.{Bool, not}
-use mathlib.Core.List.{List, map}
+use mathlib.Core.List.{map}
 use Prim.Native.Nat.{ℕ}
 use Rattle.std.specs.shelf.Lists.{kept-by}
 use Rattle.std.specs.declared.option.Option.{Option}
@@ -30,6 +30,6 @@ abbrev pub counted : Result ℕ EvaluatorFault → Option ℕ
 counted (Ok k) = Some k
 counted (Err f) = None
 
-abbrev pub count : {T E : Type 0} → Result (T × Result ℕ EvaluatorFault) E → Option ℕ
-count (Ok k) = counted (k .1)
-count (Err e) = None
+abbrev pub listed-count : {T E : Type 0} → Result (T × Result ℕ EvaluatorFault) E → Option ℕ
+listed-count (Ok k) = counted (k .1)
+listed-count (Err e) = None

@@ -6,11 +6,9 @@ use lib.ListN.{replicate}
 use Rattle.std.specs.shelf.Lists.{All}
 use Rattle.std.specs.Of.Vec.{vec-items, vec-len, vec-cap}
 use Rattle.std.specs.declared.vec.Vec.{Vec}
-use Rattle.std.specs.declared.alloc.Global.{Global}
 use Rattle.std.specs.declared.option.Option.{Option}
 use Rattle.std.specs.declared.option.Option.the-variants.{Some, None}
 use Rattle.kiosk.specs.declared.slip.Fact.{Fact}
-use Rattle.kiosk.specs.declared.ticket.Ticket.{Ticket}
 use Rattle.kiosk.specs.Book.{Book}
 
 abbrev pub sessions : Option (List Fact) → ℕ

@@ -3,8 +3,7 @@ use mathlib.Core.Path.{_≡_}
 use mathlib.Core.Bool.{Bool, true, false, cond}
 use mathlib.Core.List.{List, [], _∷_, List·Memᴰ}
 use Prim.Native.Nat.{ℕ, _+_}
-use lib.ListN.{take, replicate}
-use Rattle.std.specs.Results.{Cases}
+use lib.ListN.{length, take, replicate}
 use Rattle.std.specs.Of.Vec.{vec-items}
 use Rattle.std.specs.declared.result.Result.{Result}
 use Rattle.std.specs.declared.result.Result.the-variants.{Ok, Err}
@@ -49,6 +48,7 @@ Between X M = ((a : ℕ) → Mem a (X .0) → Mem a M) × ((a : ℕ) → Mem a (
 -- and each set listed agrees with the well-founded model of those sheets
 pub record Listing (over : Overruling) (b : Book) (old new : List ℕ) (r : Result ℕ EvaluatorFault) : Type 0 where
   pub listed : Listed (shown b .rules) over (b .matters) old new r
+  pub places-kept : length new ≡ length old
   pub agrees : (X : LiteralSet) → WellFounded (shown b .rules) over (b .matters) X → (M : ℕ) → List·Memᴰ M (told new r) → Between X M
 
 -- Answers
@@ -63,12 +63,12 @@ asks End = false
 asks Outcomes = true
 
 -- how many calls ask for a listing
-abbrev pub one : Bool → ℕ
-one b = cond b 1 0
+abbrev pub tally : Bool → ℕ
+tally b = cond b 1 0
 
 abbrev pub asked : List Call → ℕ
 asked [] = 0
-asked (c ∷ cs) = one (asks c) + asked cs
+asked (c ∷ cs) = tally (asks c) + asked cs
 
 -- what a call answers where the book stands so: outcomes a listing into places that hold zero, and any other call what the book says
 abbrev pub Answers : (over : Overruling) (places : ℕ) → Book → Call → Answer → Type 0

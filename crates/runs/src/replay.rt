@@ -8,8 +8,8 @@ ghost use Rattle.std.specs.Vec.{made};
 ghost use Rattle.std.specs.declared.option.Option.the-variants.{Some};
 ghost use Rattle.kiosk.specs.Standing.{book-of};
 ghost use Rattle.runs.specs.Purse.{Pursed, Stocked};
-ghost use Rattle.runs.specs.Running.{first, after as book-after, asks, one, asked, Performed, Replays};
-ghost use Rattle.runs.specs.Comparing.{SameButTautologies, count};
+ghost use Rattle.runs.specs.Running.{first, after as book-after, asks, tally, asked, Performed, Replays};
+ghost use Rattle.runs.specs.Comparing.{SameButTautologies, listed-count};
 use crate::run::Run;
 use crate::run::Start;
 use evaluator::answer::EvaluatorFault;
@@ -54,7 +54,7 @@ pub fn replay_two<R: OpenRack, S: OpenRack, O: Order>(
 )
     ensures one { λ r. ⌜ Replays (R·Rack .meaning) (R·OpenRack .floor) (R·OpenRack .places) (O·Order .over (now (order .entry))) places (starts .0) (now (calls .entry .0)) (now (list .entry)) (now (list .exit)) (r .0) ⌝ }
     ensures other { λ r. ⌜ Replays (S·Rack .meaning) (S·OpenRack .floor) (S·OpenRack .places) (O·Order .over (now (order .entry))) places (starts .1) (now (calls .entry .1)) (now («other_list» .entry)) (now («other_list» .exit)) (r .1) ⌝ }
-    ensures same { λ r. ⌜ ((k j : ℕ) → count (r .0) ≡ Some k → count (r .1) ≡ Some j → SameButTautologies (book-after (first (R·Rack .meaning) (R·OpenRack .floor) (R·OpenRack .places) (starts .0 .rack)) (now (calls .entry .0))) (book-after (first (S·Rack .meaning) (S·OpenRack .floor) (S·OpenRack .places) (starts .1 .rack)) (now (calls .entry .1))) → take k (now (list .exit)) ≡ take j (now («other_list» .exit))) ⌝ }
+    ensures same { λ r. ⌜ ((k j : ℕ) → listed-count (r .0) ≡ Some k → listed-count (r .1) ≡ Some j → SameButTautologies (book-after (first (R·Rack .meaning) (R·OpenRack .floor) (R·OpenRack .places) (starts .0 .rack)) (now (calls .entry .0))) (book-after (first (S·Rack .meaning) (S·OpenRack .floor) (S·OpenRack .places) (starts .1 .rack)) (now (calls .entry .1))) → take k (now (list .exit)) ≡ take j (now («other_list» .exit))) ⌝ }
 {
     let (start, other_start) = starts;
     let (calls, other_calls) = calls;
@@ -131,7 +131,7 @@ fn listings(calls: &[Call]) -> usize
 }
 
 fn lists_for(call: Call) -> usize
-    ensures { λ r. ⌜ r ≡ one (asks call) ⌝ ∗ ⌜ r ≤ 1 ⌝ }
+    ensures { λ r. ⌜ r ≡ tally (asks call) ⌝ ∗ ⌜ r ≤ 1 ⌝ }
 {
     match call {
         Call::Outcomes => 1,

@@ -5,7 +5,7 @@ ghost use Rattle.kiosk.specs.Book.{step, Does};
 ghost use Rattle.kiosk.specs.Standing.{book-of};
 ghost use Rattle.kiosk.specs.declared.call.Call.the-variants.{Open as OpenCall, End as EndCall};
 ghost use Rattle.runs.specs.Purse.{Pursed, Stocked};
-ghost use Rattle.runs.specs.Running.{Answers, ListedInto, asks, one};
+ghost use Rattle.runs.specs.Running.{Answers, ListedInto, asks, tally};
 use crate::run::Answer;
 use crate::run::Run;
 use evaluator::outcomes::outcomes;
@@ -22,11 +22,11 @@ use racks::rack::Rack;
 impl<R: OpenRack> Run<R> {
     // Makes one call.
     pub(crate) fn perform<O: Order>(&mut self, call: Call, order: &O) -> Answer
-        requires { ⌜ Pursed (book-of (R·Rack .meaning) (R·OpenRack .floor) (R·OpenRack .places) (now self .kiosk)) (now self .tickets) ⌝ ∗ ⌜ Stocked (now self .places) (one (asks call)) (now self .lists) ⌝ }
+        requires { ⌜ Pursed (book-of (R·Rack .meaning) (R·OpenRack .floor) (R·OpenRack .places) (now self .kiosk)) (now self .tickets) ⌝ ∗ ⌜ Stocked (now self .places) (tally (asks call)) (now self .lists) ⌝ }
         ensures answer { λ r. ⌜ Answers (O·Order .over (now (order .entry))) (now (self .entry) .places) (book-of (R·Rack .meaning) (R·OpenRack .floor) (R·OpenRack .places) (now (self .entry) .kiosk)) call r ⌝ }
         ensures book { λ r. ⌜ book-of (R·Rack .meaning) (R·OpenRack .floor) (R·OpenRack .places) (now (self .exit) .kiosk) ≡ step (book-of (R·Rack .meaning) (R·OpenRack .floor) (R·OpenRack .places) (now (self .entry) .kiosk)) call .book ⌝ }
         ensures purse { λ r. ⌜ Pursed (book-of (R·Rack .meaning) (R·OpenRack .floor) (R·OpenRack .places) (now (self .exit) .kiosk)) (now (self .exit) .tickets) ⌝ }
-        ensures stock { λ r. ⌜ Stocked (now (self .entry) .places) (vec-len (now (self .entry) .lists) - one (asks call)) (now (self .exit) .lists) ⌝ }
+        ensures stock { λ r. ⌜ Stocked (now (self .entry) .places) (vec-len (now (self .entry) .lists) - tally (asks call)) (now (self .exit) .lists) ⌝ }
         ensures kept { λ r. ⌜ (now (self .exit) .answers ≡ now (self .entry) .answers) × (now (self .exit) .places ≡ now (self .entry) .places) ⌝ }
     {
         match call {

@@ -1,4 +1,4 @@
-use mathlib.Core.Path.{_≡_, refl, sym, ap, subst, _∙_}
+use mathlib.Core.Path.{sym, ap, subst, _∙_}
 use mathlib.Core.List.{List, [], _∷_, _++_}
 use native.Mathlib.Omega.{arith}
 use Prim.Native.Nat.{ℕ, _-_}
@@ -10,7 +10,7 @@ use Rattle.kiosk.specs.Book.{Book}
 use Rattle.kiosk.specs.Standing.{book-of}
 use Rattle.runs.specs.declared.run.Answer.{Answer}
 use Rattle.runs.specs.Purse.{Pursed, Stocked}
-use Rattle.runs.specs.Running.{Answers, Runs, after, asks, one, asked}
+use Rattle.runs.specs.Running.{Answers, Runs, after, asks, tally, asked}
 use Rattle.runs.proofs.Sessions.{going-start, going-more, going-end}
 use Rattle.runs.proofs.replay.perform_all.Needs as need
 
@@ -32,7 +32,7 @@ perform-answer-requires g c κs =
     let calls = c .args .calls .now in
     let j = c .loop-call .call-index in
     let more = at-drop-more asked calls j Begin (c .loop-call-test .taken) in
-    (i .2, subst (λ (n : ℕ). Stocked n (one (asks (getD calls j Begin))) (c .loop-call .run .lists)) (sym (i .4)) (omega (arith, i .5 .0, more), i .5 .1))
+    (i .2, subst (λ (n : ℕ). Stocked n (tally (asks (getD calls j Begin))) (c .loop-call .run .lists)) (sym (i .4)) (omega (arith, i .5 .0, more), i .5 .1))
 
 pub loop-call-again : need.loop-call-again
 loop-call-again g c =
@@ -42,7 +42,7 @@ loop-call-again g c =
     let over = g .O·Order .over (c .args .order .now) in
     let at = getD (c .args .calls .now) (c .loop-call .call-index) Begin in
     let answer = subst (λ (n : ℕ). Answers over n (book-of (g .R·Rack .meaning) (g .R·OpenRack .floor) (g .R·OpenRack .places) (run .kiosk)) at (c .perform-answer .result)) (i .4) (c .perform-answer .ensures .answer) in
-    let stock = subst (λ (n : ℕ). Stocked n (vec-len (run .lists) - one (asks at)) (c .perform-answer .last .self .lists)) (i .4) (c .perform-answer .ensures .stock) in
+    let stock = subst (λ (n : ℕ). Stocked n (vec-len (run .lists) - tally (asks at)) (c .perform-answer .last .self .lists)) (i .4) (c .perform-answer .ensures .stock) in
     let items = c .push-reserved .ensures .items ∙ ap (λ (xs : List Answer). xs ++ (c .perform-answer .result ∷ [])) (ap vec-items kept) in (
       omega (arith, ap vec-len kept, c .push-reserved .ensures .len, c .loop-call .inv .0),
       omega (arith, ap vec-cap kept, c .push-reserved .ensures .capacity, c .loop-call .inv .1),

@@ -1,5 +1,5 @@
 use mathlib.Core.Path.{ap, _∙_}
-use Rattle.kiosk.specs.Book.{Book}
+use native.Mathlib.Omega.{arith}
 use Rattle.kiosk.specs.Standing.{kiosk-meaning, shown}
 use Rattle.kiosk.proofs.Shown.{kiosk-kept, kiosk-shown}
 use Rattle.runs.specs.Running.{first, after}
@@ -15,5 +15,5 @@ returns g c =
     let over = g .O·Order .over (c .args .order .now) in (
       made,
       listing-of (kiosk-meaning m k) (after (first m (g .R·OpenRack .floor) (g .R·OpenRack .places) (c .args .start .rack)) (c .args .calls .now)) over (c .args .list .now) (c .outcomes-counted .last .list) (c .outcomes-counted .result)
-          (kiosk-kept m k kept) (g .O·Order·met .total (c .args .order .now)) (kiosk-shown m (g .R·OpenRack .floor) (g .R·OpenRack .places) k kept ∙ ap shown (made .stands)) (c .outcomes-counted .ensures),
+          (kiosk-kept m k kept) (g .O·Order·met .total (c .args .order .now)) (kiosk-shown m (g .R·OpenRack .floor) (g .R·OpenRack .places) k kept ∙ ap shown (made .stands)) (omega (arith, c .outcomes-counted .kept .list)) (c .outcomes-counted .ensures),
     )

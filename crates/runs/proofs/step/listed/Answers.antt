@@ -12,6 +12,6 @@ returns g c =
     let kept = g .R·Rack·met .kept (k .rack) in
     let over = g .O·Order .over (c .args .order .now) in
     let h = listing-of (kiosk-meaning m k) (book-of m (g .R·OpenRack .floor) (g .R·OpenRack .places) k) over (c .as-mut-slice .result .now) (c .outcomes-counted .last .list) (c .outcomes-counted .result)
-    (kiosk-kept m k kept) (g .O·Order·met .total (c .args .order .now)) (kiosk-shown m (g .R·OpenRack .floor) (g .R·OpenRack .places) k kept) (c .outcomes-counted .ensures) in
+    (kiosk-kept m k kept) (g .O·Order·met .total (c .args .order .now)) (kiosk-shown m (g .R·OpenRack .floor) (g .R·OpenRack .places) k kept) (omega (arith, c .outcomes-counted .kept .list)) (c .outcomes-counted .ensures) in
     listing-moved (c .as-mut-slice .ensures .value)
     (sym (front-again (c .outcomes-counted .last .list) _ (c .args .list .len) (omega (arith, c .outcomes-counted .kept .list, c .as-mut-slice .ensures .len)))) h
