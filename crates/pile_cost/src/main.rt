@@ -1,4 +1,5 @@
-// What it costs to read a pile of layers, by its depth: pile_cost REPEATS prints the time of a survey at depth 1, 2, 4 and 8.
+// What it costs to read a pile of layers, by its depth: pile_cost REPEATS prints the time to read all rules, and to ask for the
+// three numbers, at depth 1, 2, 4 and 8.
 // A pile that asked the rack below twice at each layer would need 128 times as long at depth 8 as at depth 1.
 use layers::amended::Amended;
 use layers::amended::AmendedReads;
@@ -16,7 +17,7 @@ use std::time::Instant;
 
 fn main(rt: LibcRuntime) -> Result<(), AnyError> {
     let Some(word) = env::args(&rt)?.skip(1).next() else {
-        println!(rt, "pile_cost REPEATS: the time of a survey of a pile of 1, 2, 4 and 8 layers")?;
+        println!(rt, "pile_cost REPEATS: the time to read a pile of 1, 2, 4 and 8 layers")?;
         return Ok(());
     };
     let repeats = word.parse::<u32>()?;
@@ -41,13 +42,23 @@ fn full_pocket() -> PocketRack {
 }
 
 fn show<R: Rack>(rt: &LibcRuntime, depth: u8, pile: &R, repeats: u32) -> Result<(), AnyError> {
-    let start = Instant::now(rt)?;
-    let mut rules = 0u64;
-    for _ in 0..repeats {
-        let (_, table) = pile.survey();
-        rules = rules.wrapping_add(table.len() as u64);
-    }
-    let nanos = start.elapsed(rt)?.as_nanos() / u128::from(repeats.max(1));
-    println!(rt, "depth {depth}: {nanos} ns a survey ({rules} rules read)")?;
+    let read = timed(rt, pile, repeats, true)?;
+    let shape = timed(rt, pile, repeats, false)?;
+    println!(rt, "depth {depth}: {read} ns to read all rules, {shape} ns for the three numbers")?;
     Ok(())
+}
+
+// Nanoseconds for one reading of all rules, or for one question for the three numbers.
+fn timed<R: Rack>(rt: &LibcRuntime, pile: &R, repeats: u32, rules: bool) -> Result<u128, AnyError> {
+    let start = Instant::now(rt)?;
+    let mut seen = 0u64;
+    for _ in 0..repeats {
+        let count = if rules { pile.read().len() as u64 } else { u64::from(pile.shape().rules) };
+        seen = seen.wrapping_add(count);
+    }
+    let nanos = start.elapsed(rt)?.as_nanos();
+    if seen == u64::MAX {
+        println!(rt, "{seen} rules")?;
+    }
+    Ok(nanos / u128::from(repeats.max(1)))
 }
