@@ -1,19 +1,19 @@
 -- The notions of specs/ computed: a test for each, with one lemma that says what it decides, the step, and the list of outcomes.
-use Rattle.std.proofs.Common.{◌≡◌, ℕ, zero, suc, ◌+◌, ◌-◌, ◌/◌, ◌%◌, ◌^◌, ◌<◌, ◌≤◌, Bool, true, false, cond, not, ◌&&◌, ◌||◌, eqb, ◌⊎◌, List, [], ◌∷◌, length, get_or, Decides, filter, sym, refl, ap, ◌∙◌, subst, subst₂, inl, inr, ⊎_elim, arith}
+use Rattle.std.proofs.Common.{◌≡◌, ℕ, zero, suc, ◌+◌, ◌^◌, ◌<◌, ◌≤◌, Bool, true, false, cond, not, ◌&&◌, ◌||◌, eqb, ◌⊎◌, List, [], ◌∷◌, length, get_or, Decides, filter, sym, refl, ap, ◌∙◌, subst, inl, inr, ⊎_elim, arith}
 use mathlib.Core.List.Memᴰ
 use mathlib.Core.List.{Memᴰ}
 use lib.Bits.{bit_and, bit_or}
-use Rattle.std.specs.List.{range_with_len, AllByRecursion as All}
-use Rattle.std.proofs.lemmas.Bool.{cases_Bool, and_from, and_parts, not_from_false, not-true, cond_both, eqb-true, eqb-false, or_cases, or_left, or_right, cases_lt}
-use Rattle.std.proofs.lemmas.Bool.Decides.{Decides-eqb, Decides-and, Decides-or, Decides-not, Decides-like, not_from_Decides, same_from_decides}
+use Rattle.std.specs.List.{range_with_len, AllByRecursion}
+use Rattle.std.proofs.lemmas.Bool.{cases_Bool, not_from_false, cond_both, eqb-true, eqb-false, or_cases, or_left, or_right, cases_lt}
+use Rattle.std.proofs.lemmas.Bool.Decides.{Decides-eqb, Decides-and, Decides-not, Decides-like}
 use Rattle.std.proofs.lemmas.List.Filters.{length-filter_both}
 use Rattle.rules.specs.declared.rule.Rule.{Rule}
 use Rattle.rules.specs.declared.rule.Sign.{Sign}
 use Rattle.rules.specs.declared.rule.Sign.TheVariants.{Yes, No}
-use Rattle.rules.specs.Semantics.{Mem, LiteralSet, Holds, ◌⊆◌, ◌∈◌, body, opposite, Clash, Overruling, Total, strictly, Rejects, Rejected, Affirms, Default, Closed, Step, Outcome, settled, Ascending, Lists}
+use Rattle.rules.specs.Semantics.{Mem, LiteralSet, Holds, ◌⊆◌, ◌∈◌, body, opposite, Clash, Overruling, Rejects, Rejected, Affirms, Default, Step, settled, Ascending, Lists}
 use Rattle.rules.specs.Parts.{no_rule, plus}
 use Rattle.rules.proofs.Bitwise.{same_members, mem_and, mem_and_left, mem_and_right, mem_or_left, mem_or_right, mem_or_cases, mem_one, mem_one_is, not_in_zero}
-use Rattle.rules.proofs.Literals.{yes≢no, ⊆_refl, ⊆_trans, ⊆_antisym, empty_⊆, plus_more, plus_has, plus_least}
+use Rattle.rules.proofs.Literals.{yes≢no, ⊆_refl, ⊆_trans, plus_more, plus_has, plus_least}
 use Rattle.rules.proofs.Theory.{step_unique}
 
 -- tests
@@ -281,11 +281,11 @@ counting_only a (suc k) m i =
     let further = counting_only (a + 1) k m in
     ⊎_elim (λ e. (omega arith, omega arith)) (λ j. let w = further j in (omega arith, omega arith)) (Memᴰ.cases_cons i)
 
-pub all_members : {A : Type 0} (Q : A → Type 0) (xs : List A) → ((x : A) → Memᴰ x xs → Q x) → All Q xs
+pub all_members : {A : Type 0} (Q : A → Type 0) (xs : List A) → ((x : A) → Memᴰ x xs → Q x) → AllByRecursion Q xs
 all_members Q [] f = tt
 all_members Q (x ∷ xs) f = (f x (Memᴰ.head refl), all_members Q xs (λ y m. f y (Memᴰ.tail m)))
 
-pub all_member : {A : Type 0} (Q : A → Type 0) (xs : List A) (x : A) → All Q xs → Memᴰ x xs → Q x
+pub all_member : {A : Type 0} (Q : A → Type 0) (xs : List A) (x : A) → AllByRecursion Q xs → Memᴰ x xs → Q x
 all_member Q [] x h m = absurd (Memᴰ.not-nil m)
 all_member Q (y ∷ ys) x h m = let further = all_member Q ys x h.1 in ⊎_elim (λ e. subst Q (sym e) h.0) further (Memᴰ.cases_cons m)
 

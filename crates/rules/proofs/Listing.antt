@@ -1,14 +1,14 @@
 -- Yes a loop that lists the outcomes: those below m, one more, and all of them.
-use Rattle.std.proofs.Common.{◌≡◌, ℕ, zero, suc, ◌+◌, ◌-◌, ◌^◌, ◌<◌, ◌≤◌, Bool, ◌⊎◌, List, [], ◌∷◌, ◌++◌, length, take, drop, set, filter, sym, refl, ap, ◌∙◌, subst, inl, inr, ⊎_elim, arith, length-append, length-set, drop-drop, drop-set-lt}
+use Rattle.std.proofs.Common.{◌≡◌, ℕ, ◌+◌, ◌-◌, ◌^◌, ◌<◌, ◌≤◌, List, [], ◌∷◌, ◌++◌, length, take, drop, set, filter, sym, refl, ap, ◌∙◌, subst, ⊎_elim, arith, length-append, length-set, drop-drop, drop-set-lt}
 use mathlib.Core.List.Memᴰ
 use mathlib.Core.List.{Memᴰ}
 use lib.Seq.{take-append_seam}
-use Rattle.std.specs.List.{range_with_len, AllByRecursion as All}
+use Rattle.std.specs.List.{range_with_len}
 use Rattle.std.proofs.ByRecursion.{All-append}
 use Rattle.std.proofs.lemmas.List.{take_more_set}
 use Rattle.std.proofs.lemmas.Bool.{cases_lt}
 use Rattle.rules.specs.declared.rule.Rule.{Rule}
-use Rattle.rules.specs.Semantics.{Overruling, Step, Outcome, settled, Ascending, Lists}
+use Rattle.rules.specs.Semantics.{Overruling, Outcome, Ascending, Lists}
 use Rattle.rules.proofs.Computed.{fixed, decides_fixed, counting_has, counting_only, kept_mem, mem_kept, kept_ascending, mem_length, all_members, all_member}
 
 -- Ms lists the outcomes below m

@@ -1,15 +1,15 @@
 -- The turns from the empty set come to rest after at most 2 n rounds.
-use Rattle.std.proofs.Common.{◌≡◌, ℕ, zero, suc, ◌+◌, ◌*◌, ◌^◌, ◌<◌, ◌≤◌, Bool, true, false, not, ◌&&◌, ◌⊎◌, List, sym, refl, ap, ◌∙◌, subst, subst₂, inl, inr, ⊎_elim, add-one, arith}
+use Rattle.std.proofs.Common.{◌≡◌, ℕ, zero, suc, ◌+◌, ◌*◌, ◌^◌, ◌<◌, ◌≤◌, Bool, true, not, ◌&&◌, ◌⊎◌, List, sym, refl, ap, ◌∙◌, subst, inl, inr, ⊎_elim, add-one, arith}
 use lib.Count.{ones}
 use Rattle.std.proofs.lemmas.Bool.{cases_Bool, cases_lt, and_parts}
 use Rattle.std.proofs.lemmas.Nat.{ones-le}
 use Rattle.std.proofs.lemmas.Bool.Decides.{not_from_Decides, Decides-not}
 use Rattle.rules.specs.declared.rule.Rule.{Rule}
 use Rattle.rules.specs.declared.rule.Sign.TheVariants.{Yes, No}
-use Rattle.rules.specs.Semantics.{LiteralSet, Holds, ◌⊆◌, Overruling, strictly, Step, Turn, After, Rests, Formed}
+use Rattle.rules.specs.Semantics.{LiteralSet, ◌⊆◌, Overruling, strictly, Turn, After, Rests, Formed}
 use Rattle.rules.specs.Semantics.After.{start, more}
-use Rattle.rules.proofs.Bitwise.{below_from_members, ones_more, not_in_zero}
-use Rattle.rules.proofs.Literals.{⊆_refl, ⊆_antisym, empty_⊆}
+use Rattle.rules.proofs.Bitwise.{below_from_members, ones_more}
+use Rattle.rules.proofs.Literals.{empty_⊆}
 use Rattle.rules.proofs.Theory.{step_bounded, turn_monotone, turn_unique}
 use Rattle.rules.proofs.Computed.{step, step_is, same_set, decides_same}
 

@@ -1,11 +1,11 @@
 -- Tautologies change no outcome.
-use Rattle.std.proofs.Common.{◌≡◌, ℕ, ◌-◌, ◌/◌, ◌%◌, ◌^◌, ◌<◌, Bool, true, false, not, ◌&&◌, ◌⊎◌, List, Decides, sym, refl, ap, ◌∙◌, subst, subst₂, inl, inr, ⊎_elim}
+use Rattle.std.proofs.Common.{◌≡◌, ℕ, ◌/◌, ◌%◌, ◌^◌, not, ◌⊎◌, List, Decides, sym, subst, subst₂, inl, inr, ⊎_elim}
 use Rattle.std.proofs.lemmas.Bool.{and_parts}
 use Rattle.std.proofs.lemmas.Bool.Decides.{Decides-eqb, Decides-not}
 use Rattle.rules.specs.declared.rule.Rule.{Rule}
 use Rattle.rules.specs.declared.rule.Sign.{Sign}
 use Rattle.rules.specs.declared.rule.Sign.TheVariants.{Yes, No}
-use Rattle.rules.specs.Semantics.{LiteralSet, Holds, ◌⊆◌, ◌∈◌, body, opposite, Clash, Overruling, Total, strictly, Rejects, Rejected, Survives, Affirms, Default, Closed, Step, Outcome, settled, Tautology, holds, struck, Lists}
+use Rattle.rules.specs.Semantics.{LiteralSet, Holds, ◌⊆◌, ◌∈◌, body, Overruling, Total, Rejects, Rejected, Survives, Affirms, Default, Closed, Step, Outcome, Tautology, holds, struck, Lists}
 use Rattle.rules.proofs.Literals.{yes≢no, ⊆_trans, holds_cases, meet, meet_both, meet_left, meet_right}
 use Rattle.rules.proofs.Theory.{supported, opposed}
 use Rattle.rules.proofs.Computed.{kept_mem, mem_kept, lists_unique}

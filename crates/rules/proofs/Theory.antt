@@ -1,14 +1,14 @@
 -- The theory of steps, outcomes and the well-founded model.
-use Rattle.std.proofs.Common.{◌≡◌, ℕ, ◌-◌, ◌^◌, ◌<◌, Bool, true, false, not, ◌&&◌, ◌⊎◌, List, Decides, sym, refl, ap, ◌∙◌, subst, subst₂, inl, inr, ⊎_elim, arith}
+use Rattle.std.proofs.Common.{◌≡◌, ℕ, ◌^◌, ◌<◌, Bool, true, false, not, List, Decides, sym, refl, ap, ◌∙◌, subst, subst₂, ⊎_elim, arith}
 use Rattle.std.proofs.lemmas.Bool.{cases_lt, cases_Bool, and_from, and_parts, not_from_false}
 use Rattle.rules.specs.declared.rule.Rule.{Rule}
 use Rattle.rules.specs.declared.rule.Sign.{Sign}
 use Rattle.rules.specs.declared.rule.Sign.TheVariants.{Yes, No}
-use Rattle.rules.specs.Semantics.{Mem, LiteralSet, Holds, ◌⊆◌, ◌∈◌, body, opposite, Clash, Overruling, Total, strictly, Rejects, Rejected, Affirms, Survives, Default, Closed, Closure, Step, Turn, WellFounded, After, Rests, Outcome, settled, Formed, Tautology}
+use Rattle.rules.specs.Semantics.{Mem, LiteralSet, Holds, ◌⊆◌, ◌∈◌, body, opposite, Overruling, Total, strictly, Rejects, Rejected, Survives, Default, Closed, Closure, Step, Turn, WellFounded, After, Rests, Outcome, settled, Formed, Tautology}
 use Rattle.rules.specs.Parts.{Round}
 use Rattle.rules.specs.Semantics.After.{start, more}
 use Rattle.rules.proofs.Bitwise.{not_in_zero}
-use Rattle.rules.proofs.Literals.{yes≢no, opposite_opposite, ⊆_refl, ⊆_trans, ⊆_antisym, empty_⊆, holds_cases, settled_other, settled_one, meet, meet_both, meet_left, meet_right, minus, minus_less, minus_not, minus_other}
+use Rattle.rules.proofs.Literals.{opposite_opposite, ⊆_refl, ⊆_trans, ⊆_antisym, empty_⊆, holds_cases, settled_other, settled_one, minus, minus_less, minus_not, minus_other}
 
 -- more true bodies reject more
 pub rejected_more : {P : List Rule} {over : Overruling} {X Y : LiteralSet} {r : Rule} → X ⊆ Y → Rejected P over X r → Rejected P over Y r

@@ -8,7 +8,7 @@
 --   broad, narrow   one notion under two relations: `over`, and `strictly over`
 use Rattle.std.specs.Prelude.{◌≡◌, ℕ, suc, ◌-◌, ◌/◌, ◌%◌, ◌^◌, ◌<◌, Bool, true, not, ◌&&◌, ◌⊎◌, List, [], ◌∷◌, filter, ◌==◌}
 use mathlib.Core.List.{Memᴰ}
-use Rattle.std.specs.List.{AllByRecursion as All}
+use Rattle.std.specs.List.{AllByRecursion}
 use Rattle.rules.specs.declared.rule.Rule.{Rule}
 use Rattle.rules.specs.declared.rule.Sign.{Sign}
 use Rattle.rules.specs.declared.rule.Sign.TheVariants.{Yes, No}
@@ -147,7 +147,7 @@ Outcome P over n M = (M < 2 ^ n) × BroadStep P over n (settled n M) (settled n 
 -- each number of the list is less than those behind it
 abbrev pub Ascending : List ℕ → Type 0
 Ascending [] = Unit {0}
-Ascending (x ∷ xs) = All (λ y. x < y) xs × Ascending xs
+Ascending (x ∷ xs) = AllByRecursion (λ y. x < y) xs × Ascending xs
 
 -- Ms lists the outcomes: each of them once, ascending, and nothing else
 pub record Lists (P : List Rule) (over : Overruling) (n : ℕ) (Ms : List ℕ) : Type 0 where

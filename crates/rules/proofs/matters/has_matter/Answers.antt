@@ -4,8 +4,8 @@ use Rattle.rules.proofs.Bitwise.{mem_below}
 use Rattle.rules.proofs.matters.has_matter.Goals as goal
 
 -- a set of 16 bits has no matter from 16 on
-pub returns-else-matter-lt-MOST-MATTERS : goal.returns-else-matter-lt-MOST-MATTERS
-returns-else-matter-lt-MOST-MATTERS c = (
+pub returns-else-matter-lt-MOST_MATTERS : goal.returns-else-matter-lt-MOST_MATTERS
+returns-else-matter-lt-MOST_MATTERS c = (
   λ e. absurd (let l = ltb-true c.args.matter 16 e in omega arith),
   λ m. absurd (let l = mem_below 16 c.args.set c.args.matter (omega arith) m in omega arith),
 )

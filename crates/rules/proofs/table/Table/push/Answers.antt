@@ -1,12 +1,12 @@
-use Rattle.std.proofs.Common.{◌≡◌, ◌<◌, ◌≤◌, length, take, sym, refl, ◌∙◌, arith, rules}
+use Rattle.std.proofs.Common.{sym, refl, arith}
 use Rattle.std.proofs.lemmas.List.{length-take-le, take_more_set}
 use Rattle.std.proofs.lemmas.Bool.{le-ltb, lt-ltb}
 use Rattle.rules.specs.Held.{held}
 use Rattle.rules.proofs.table.Table.push.Goals as goal
 
-pub returns-then-at-ge-MOST-RULES : goal.returns-then-at-ge-MOST-RULES
+pub returns-then-at-ge-MOST_RULES : goal.returns-then-at-ge-MOST_RULES
 unfolding held
-returns-then-at-ge-MOST-RULES c =
+returns-then-at-ge-MOST_RULES c =
     let t = c.args.self.now in
     let e = length-take-le t.len t.rules (omega (arith, t.whole, t.within)) in
     record { value = sym (le-ltb _ _ (omega (arith, e))); after = refl }
