@@ -1,4 +1,6 @@
 // Orders of sheets: which sheet overrules which.
+#![tactic(auto)]
+
 pub mod fault;
 pub mod graded;
 pub mod graded_position;

@@ -1,4 +1,4 @@
-use Rattle.std.proofs.Common.{◌≡◌, length, take, sym, arith}
+use Rattle.std.proofs.Common.{take, sym, arith}
 use Rattle.std.proofs.lemmas.List.{get_or-take, get_or_past, length-take-le}
 use Rattle.orders.specs.Grading.{graded}
 use Rattle.orders.proofs.grades.Grades.of.Goals as goal
