@@ -1,6 +1,6 @@
 -- Reading a file: sheet by sheet, the rack at the end, and the refusals on the way.
 use Rattle.std.proofs.Common.{◌≡◌, ℕ, suc, ◌+◌, ◌-◌, ◌<◌, ◌≤◌, true, List, [], ◌∷◌, ◌++◌, map, length, get_or, take, drop, Some, sym, refl, ap, ◌∙◌, subst, arith}
-use Rattle.std.specs.List.{AllByRecursion as All}
+use Rattle.std.specs.List.{AllByRecursion}
 use Rattle.std.proofs.lemmas.List.{append-nil, append_assoc, flat_map_more, length_push, length-map, length-append, take_rest}
 use Rattle.std.proofs.ByRecursion.{All-push}
 use Rattle.rules.specs.declared.record.Record.{Record}
@@ -45,7 +45,7 @@ done_more n s bytes rest after P Q d r = record {
       let a = append_assoc (packed_sheets d.sheets) (packed_sheet r.sheet) after in
       let b = r.bytes_are in let e = d.bytes_are in cc;
   holdable = record {
-    all_good = All-push (All (λ x. good n x ≡ true)) d.sheets r.sheet d.holdable.all_good r.adds.all_good;
+    all_good = All-push (AllByRecursion (λ x. good n x ≡ true)) d.sheets r.sheet d.holdable.all_good r.adds.all_good;
     few_rules = let c = count_push d.sheets r.sheet in let l = length_numbered 0 d.sheets in let p = ap length d.rules_are in omega arith;
   };
   rules_are =

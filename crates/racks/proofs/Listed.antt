@@ -1,6 +1,6 @@
 -- The rules of numbered sheets are sound, and stand lowest sheet first.
 use Rattle.std.proofs.Common.{◌≡◌, ℕ, ◌+◌, ◌-◌, ◌<◌, ◌≤◌, true, List, [], ◌∷◌, ◌++◌, map, length, refl, ⊎_elim, arith}
-use Rattle.std.specs.List.{AllByRecursion as All}
+use Rattle.std.specs.List.{AllByRecursion}
 use Rattle.std.proofs.lemmas.List.{get_or_append_left, get_or-append_right, length-append}
 use Rattle.std.proofs.ByRecursion.{All-get_or, All-append, All-map, All-weaker}
 use Rattle.std.proofs.lemmas.Bool.{cases_lt}
@@ -14,18 +14,18 @@ use Rattle.racks.specs.Packing.{numbered}
 pub good_sound : (n s i : ℕ) (x : Record) → i < s → good n x ≡ true → Sound n s (ruled i x)
 good_sound n s i x h e = (h, grind arith, grind arith, grind arith)
 
-numbered_good : (n s i : ℕ) (sheets : List (List Record)) → i + length sheets ≤ s → All (All (λ x. good n x ≡ true)) sheets → All (Sound n s) (numbered i sheets)
+numbered_good : (n s i : ℕ) (sheets : List (List Record)) → i + length sheets ≤ s → AllByRecursion (AllByRecursion (λ x. good n x ≡ true)) sheets → AllByRecursion (Sound n s) (numbered i sheets)
 numbered_good n s i [] l a = tt
 numbered_good n s i (xs ∷ sheets) l a =
     All-append (Sound n s) (map (ruled i) xs) (numbered (i + 1) sheets)
     (All-map (Sound n s) (ruled i) xs (All-weaker (λ x. good n x ≡ true) (λ x. Sound n s (ruled i x)) (λ x g. good_sound n s i x (omega arith) g) xs a.0))
     (numbered_good n s (i + 1) sheets (omega arith) a.1)
 
-pub numbered_sound : (n : ℕ) (sheets : List (List Record)) → All (All (λ x. good n x ≡ true)) sheets → Throughout (Sound n (length sheets)) (numbered 0 sheets)
+pub numbered_sound : (n : ℕ) (sheets : List (List Record)) → AllByRecursion (AllByRecursion (λ x. good n x ≡ true)) sheets → Throughout (Sound n (length sheets)) (numbered 0 sheets)
 numbered_sound n sheets a k l = All-get_or (Sound n (length sheets)) (numbered 0 sheets) k no_rule l (numbered_good n (length sheets) 0 sheets (omega arith) a)
 
 -- lists that rise, the one up to a sheet and the other from it on
-pub rising_append : (b : ℕ) (P Q : List Rule) → Rising P → All (λ r. r.sheet ≤ b) P → All (λ r. b ≤ r.sheet) Q → Rising Q → Rising (P ++ Q)
+pub rising_append : (b : ℕ) (P Q : List Rule) → Rising P → AllByRecursion (λ r. r.sheet ≤ b) P → AllByRecursion (λ r. b ≤ r.sheet) Q → Rising Q → Rising (P ++ Q)
 rising_append b P Q p low high q i j ij jl =
     let n = length-append P Q in
     ⊎_elim
@@ -38,11 +38,11 @@ rising_append b P Q p low high q i j ij jl =
     (cases_lt i (length P)))
     (cases_lt j (length P))
 
-one_sheet : (i : ℕ) (xs : List Record) → All (λ r. r.sheet ≡ i) (map (ruled i) xs)
+one_sheet : (i : ℕ) (xs : List Record) → AllByRecursion (λ r. r.sheet ≡ i) (map (ruled i) xs)
 one_sheet i [] = tt
 one_sheet i (x ∷ xs) = (refl, one_sheet i xs)
 
-numbered_from : (i : ℕ) (sheets : List (List Record)) → All (λ r. i ≤ r.sheet) (numbered i sheets)
+numbered_from : (i : ℕ) (sheets : List (List Record)) → AllByRecursion (λ r. i ≤ r.sheet) (numbered i sheets)
 numbered_from i [] = tt
 numbered_from i (xs ∷ sheets) =
     All-append (λ r. i ≤ r.sheet) (map (ruled i) xs) (numbered (i + 1) sheets)

@@ -1,6 +1,6 @@
 -- Packing is unambiguous: bytes are the file of one n and one list of sheets, or are refused by one number.
 use Rattle.std.proofs.Common.{◌≡◌, ℕ, ◌+◌, ◌*◌, ◌/◌, ◌%◌, ◌<◌, ◌≤◌, true, false, List, [], ◌∷◌, ◌++◌, length, Some, None, sym, refl, ap, ◌∙◌, subst, ⊎_elim, div-add-mod', arith}
-use Rattle.std.specs.List.{AllByRecursion as All}
+use Rattle.std.specs.List.{AllByRecursion}
 use Rattle.std.proofs.lemmas.List.{length-append, append_assoc, append-nil, append_cancel_left, nil_from_length}
 use Rattle.std.proofs.lemmas.Bool.{le-ltb, ne_eqb, cond-false, cases_lt}
 use Rattle.rules.specs.declared.record.Record.{Record}
@@ -8,6 +8,7 @@ use Rattle.rules.specs.Records.{good}
 use Rattle.rules.specs.Refusals.{first_met}
 use Rattle.rules.proofs.Refusing.{none≢some}
 use Rattle.racks.specs.Packing.{packed_rules, packed_sheet, packed_sheets, count, File, stated, record_at, records, some_bad, head_table, sheet_table, Reaches, Refused, in_head, in_sheet, at_end}
+use Rattle.racks.specs.Filing.{Unambiguous}
 use Rattle.racks.proofs.Sheets.{sheet_met}
 
 number_back : (v w : ℕ) → v / 256 ≡ w / 256 → v % 256 ≡ w % 256 → v ≡ w
@@ -35,10 +36,10 @@ record Rest (n : ℕ) (some all : List (List Record)) (rest end : List ℕ) : Ty
   pub bytes_are : rest ≡ packed_sheets more ++ end
   pub all_are : all ≡ some ++ more
   pub so_many : length all ≡ length some + length more
-  pub all_good : All (All (λ x. good n x ≡ true)) more
+  pub all_good : AllByRecursion (AllByRecursion (λ x. good n x ≡ true)) more
   pub few_rules : count all ≡ count some + count more
 
-sheets_back : (n : ℕ) (some all : List (List Record)) (rest end : List ℕ) → length some ≤ length all → All (All (λ x. good n x ≡ true)) all → packed_sheets some ++ rest ≡ packed_sheets all ++ end → Rest n some all rest end
+sheets_back : (n : ℕ) (some all : List (List Record)) (rest end : List ℕ) → length some ≤ length all → AllByRecursion (AllByRecursion (λ x. good n x ≡ true)) all → packed_sheets some ++ rest ≡ packed_sheets all ++ end → Rest n some all rest end
 sheets_back n [] all rest end l a e = record { more = all; bytes_are = e; all_are = refl; so_many = omega arith; all_good = a; few_rules = omega arith }
 sheets_back n (xs ∷ some) [] rest end l a e = absurd (omega arith)
 sheets_back n (xs ∷ some) (ys ∷ all) rest end l a e =
@@ -62,7 +63,7 @@ records_back (x ∷ xs) r =
     let h = records_back xs r in
     let f = same_record (record_at (packed_rules (x ∷ xs) ++ r) 0) x refl refl (div-add-mod' x.yes 256) (div-add-mod' x.no 256) in cc
 
-none_bad : (n : ℕ) (xs : List Record) → All (λ x. good n x ≡ true) xs → some_bad n xs ≡ false
+none_bad : (n : ℕ) (xs : List Record) → AllByRecursion (λ x. good n x ≡ true) xs → some_bad n xs ≡ false
 none_bad n [] a = refl
 none_bad n (x ∷ xs) a = let g = a.0 in rw g (none_bad n xs a.1)
 
@@ -70,7 +71,7 @@ length_packed : (xs : List Record) → length (packed_rules xs) ≡ 6 * length x
 length_packed [] = refl
 length_packed (x ∷ xs) = let h = length_packed xs in omega arith
 
-sheet_fine : (n used : ℕ) (xs : List Record) (r : List ℕ) → All (λ x. good n x ≡ true) xs → used + length xs ≤ 256 → first_met (sheet_table n used (packed_sheet xs ++ r)) ≡ None
+sheet_fine : (n used : ℕ) (xs : List Record) (r : List ℕ) → AllByRecursion (λ x. good n x ≡ true) xs → used + length xs ≤ 256 → first_met (sheet_table n used (packed_sheet xs ++ r)) ≡ None
 sheet_fine n used xs r a l =
     let bytes = packed_sheet xs ++ r in
     let w : stated bytes ≡ 6 * length xs = div-add-mod' (6 * length xs) 256 in
@@ -84,7 +85,7 @@ sheet_fine n used xs r a l =
     sheet_met n used bytes m (omega arith) (omega arith) ∙ cond-false _ (Some 8) None e
 
 -- the sheets that come after those reached are refused for nothing
-next_fine : (n used : ℕ) (rest end : List ℕ) (more : List (List Record)) → rest ≡ packed_sheets more ++ end → 0 < length more → All (All (λ x. good n x ≡ true)) more → used + count more ≤ 256 → first_met (sheet_table n used rest) ≡ None
+next_fine : (n used : ℕ) (rest end : List ℕ) (more : List (List Record)) → rest ≡ packed_sheets more ++ end → 0 < length more → AllByRecursion (AllByRecursion (λ x. good n x ≡ true)) more → used + count more ≤ 256 → first_met (sheet_table n used rest) ≡ None
 next_fine n used rest end [] b l a few = absurd (omega arith)
 next_fine n used rest end (xs ∷ more) b l a few =
     let e = b ∙ append_assoc (packed_sheet xs) (packed_sheets more) end in
@@ -178,3 +179,10 @@ no_other (in_sheet r l e) (at_end s m h f) = let t = same_total r s in absurd (n
 no_other (at_end r l h e) (in_head f) = absurd (none≢some (head_fine r) f)
 no_other (at_end r l h e) (in_sheet s m f) = let t = same_total r s in absurd (none≢some (unrefused s r (omega arith)) f)
 no_other (at_end r l h e) (at_end s m i f) = omega arith
+
+pub unambiguous : (bytes : List ℕ) → Unambiguous bytes
+unambiguous bytes = record {
+  one_file = λ n m sheets others f g. one_file f g;
+  one_number = λ k j r s. no_other r s;
+  not_both = λ k n sheets r f. no_file r n sheets f;
+}

@@ -24,6 +24,12 @@ pub record Left (bytes : List ℕ) (k : ℕ) (old new : FileRack) : Type 0 where
   pub no_file : (n : ℕ) (sheets : List (List Record)) → File bytes n sheets → ⊥
   pub same : new ≡ old
 
+-- bytes are the file of one n and one list of sheets, or are refused by one number, and never both
+pub record Unambiguous (bytes : List ℕ) : Type 0 where
+  pub one_file : (n m : ℕ) (sheets others : List (List Record)) → File bytes n sheets → File bytes m others → (m ≡ n) × (others ≡ sheets)
+  pub one_number : (k j : ℕ) → Refused bytes k → Refused bytes j → j ≡ k
+  pub not_both : (k n : ℕ) (sheets : List (List Record)) → Refused bytes k → File bytes n sheets → ⊥
+
 abbrev pub Fills : {U : Type 0} → List ℕ → FileRack → Result U FileFault → FileRack → Type 0
 Fills bytes old (Ok u) new = Filled bytes new
 Fills bytes old (Err f) new = Left bytes (file_number f) old new

@@ -1,6 +1,6 @@
 -- The packed file: which bytes sheets of records become, which bytes are a file, and why others are refused.
 use Rattle.std.specs.Prelude.{◌≡◌, ℕ, zero, suc, ◌+◌, ◌*◌, ◌/◌, ◌%◌, ◌<◌, ◌≤◌, Bool, true, false, not, ◌||◌, List, [], ◌∷◌, ◌++◌, map, length, drop, Some, ◌==◌, nat_lt, slice_index}
-use Rattle.std.specs.List.{flat_map, AllByRecursion as All}
+use Rattle.std.specs.List.{flat_map, AllByRecursion}
 use Rattle.rules.specs.declared.record.Record.{Record}
 use Rattle.rules.specs.declared.rule.Rule.{Rule}
 use Rattle.rules.specs.Records.{good, ruled}
@@ -35,7 +35,7 @@ count [] = 0
 count (xs ∷ sheets) = length xs + count sheets
 
 pub record Holdable (n : ℕ) (sheets : List (List Record)) : Type 0 where
-  pub all_good : All (All (λ x. good n x ≡ true)) sheets
+  pub all_good : AllByRecursion (AllByRecursion (λ x. good n x ≡ true)) sheets
   pub few_rules : count sheets ≤ 256
 
 -- the rules of these sheets, numbered from i on

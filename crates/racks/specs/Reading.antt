@@ -1,7 +1,7 @@
 -- What the parts of a reader of packed files owe: one sheet, and the rules of one sheet.
 use Rattle.std.specs.Prelude.{◌≡◌, ℕ, ◌+◌, ◌≤◌, true, List, ◌++◌, map, length, Some, Ok, Err, Result}
 use Rattle.std.specs.Borrow.{Bor}
-use Rattle.std.specs.List.{AllByRecursion as All}
+use Rattle.std.specs.List.{AllByRecursion}
 use Rattle.rules.specs.declared.record.Record.{Record}
 use Rattle.rules.specs.declared.rule.Rule.{Rule}
 use Rattle.rules.specs.Records.{good, ruled}
@@ -13,7 +13,7 @@ use Rattle.racks.specs.Faults.{file_number}
 
 -- the rules go from P to Q by these records, which are good, on sheet s
 pub record Adds (n s : ℕ) (xs : List Record) (P Q : List Rule) : Type 0 where
-  pub all_good : All (λ x. good n x ≡ true) xs
+  pub all_good : AllByRecursion (λ x. good n x ≡ true) xs
   pub added : Q ≡ P ++ map (ruled s) xs
 
 -- the first k records of the bytes

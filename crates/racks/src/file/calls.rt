@@ -1,6 +1,6 @@
 ghost use Rattle.std.specs.Prelude.{◌≡◌, []};
 ghost use Rattle.racks.specs.Packing.{rack_of};
-ghost use Rattle.racks.specs.Filing.{file_meaning, Fills};
+ghost use Rattle.racks.specs.Filing.{file_meaning, Fills, Unambiguous};
 ghost use Rattle.racks.specs.Tables.{held_few};
 
 use crate::file::FileRack;
@@ -24,7 +24,8 @@ impl FileRack {
 
     // Takes the rack of a packed file in place of the old one; a refusal keeps the old one.
     pub fn fill(&mut self, bytes: &[u8]) -> Result<(), FileFault>
-        ensures { Fills bytes.now self.old result self.new }
+        ensures fills { Fills bytes.now self.old result self.new }
+        ensures unambiguous { Unambiguous bytes.now }
     {
         *self = parse(bytes)?;
         Ok(())

@@ -8,4 +8,4 @@ pub returns : goal.returns
 returns c =
     let bytes = c.args.bytes.now in
     let l : 3 ≤ length bytes = omega (arith, ltb-false) in
-    subst (λ (b : List ℕ). Parses b c.read-sheets.result) (head_back bytes l (omega arith)) c.read-sheets.ensures
+    subst (λ (b : List ℕ). Parses b c.read_sheets.result) (head_back bytes l (omega arith)) c.read_sheets.ensures

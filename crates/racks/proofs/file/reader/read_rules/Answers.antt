@@ -9,8 +9,8 @@ use Rattle.racks.proofs.Packings.{records_more, length_records, bad_at}
 use Rattle.racks.proofs.Sheets.{adds_more, adds_length}
 use Rattle.racks.proofs.file.reader.read_rules.Goals as goal
 
-pub returns-in-default : goal.returns-in-default
-returns-in-default c = (refl, bad_at c.args.matters c.loop-k.k c.args.rules c.args.bytes.now (omega arith) (ap (good c.args.matters) (sym c.record_at.ensures) ∙ c.in-default.ensures))
+pub returns-in_default : goal.returns-in_default
+returns-in_default c = (refl, bad_at c.args.matters c.loop-k.k c.args.rules c.args.bytes.now (omega arith) (ap (good c.args.matters) (sym c.record_at.ensures) ∙ c.in_default.ensures))
 
 pub loop-k-preserved : goal.loop-k-preserved
 loop-k-preserved c =

@@ -6,7 +6,7 @@ use Rattle.rules.specs.Parts.{no_rule}
 use Rattle.rules.specs.declared.rule.Shape.{Shape}
 use Rattle.racks.specs.Tables.{push_room, copied_more}
 use Rattle.racks.proofs.rack.Rack.read.Goals as goal
-use Rattle.racks.proofs.rack.Rack.read.Goals.{in-Some, in-default}
+use Rattle.racks.proofs.rack.Rack.read.Goals.{in-Some, in_default}
 
 pub loop-place-preserved : goal.loop-place-preserved
 loop-place-preserved g c =
@@ -18,7 +18,7 @@ loop-place-preserved g c =
     let n = ap length c.loop-place.invariant ∙ length-take-le i xs (omega arith) in
     elim c.match-rule.branch [
       | in-Some w ↦ ap held w.table-is ∙ copied_more xs _ _ i _ c.loop-place.invariant l w.in-Some.ensures (push_room _ _ _ _ (omega arith) w.push.ensures.value w.push.ensures.after)
-      | in-default w ↦ absurd (w.in-default.not-Some _ (c.rule.ensures ∙ slice_get-get_or xs i no_rule l))
+      | in_default w ↦ absurd (w.in_default.not-Some _ (c.rule.ensures ∙ slice_get-get_or xs i no_rule l))
     ]
 
 pub returns : goal.returns
