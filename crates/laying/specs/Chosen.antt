@@ -1,7 +1,7 @@
 -- What a choice keeps of a list of rules.
 use Rattle.std.specs.Prelude.{◌≡◌, ℕ, zero, suc, ◌+◌, ◌<◌, ◌≤◌, Bool, true, false, cond, not, List, [], ◌∷◌, ◌++◌, length, take, filter, nat_lt, slice_index_or, refl}
 use Rattle.std.proofs.Common.{sym, ap, ◌∙◌, ⊎_elim, arith}
-use Rattle.std.specs.List.{AllByRecursion as All}
+use Rattle.std.specs.List.{AllByRecursion}
 use Rattle.std.proofs.lemmas.List.{append-nil, length-take-le}
 use Rattle.std.proofs.lemmas.List.Elements.{filter_more}
 use Rattle.std.proofs.ByRecursion.{All-get_or, All-from_get_or, all_kept_by}
@@ -29,22 +29,22 @@ chosen_skip p P Q i l t e =
     let more = filter_more p P i no_rule l in
     e ∙ sym ((rw (sym t) at more) ∙ append-nil (filter p (take i P)))
 
-pub kept_all : (p : Rule → Bool) (P : List Rule) → All (λ r. p r ≡ true) P → filter p P ≡ P
+pub kept_all : (p : Rule → Bool) (P : List Rule) → AllByRecursion (λ r. p r ≡ true) P → filter p P ≡ P
 kept_all p [] a = refl
 kept_all p (x ∷ P) a = rw a.0 (ap (λ (Q : List Rule). x ∷ Q) (kept_all p P a.1))
 
-pub kept_none : (p : Rule → Bool) (P : List Rule) → All (λ r. p r ≡ false) P → filter p P ≡ []
+pub kept_none : (p : Rule → Bool) (P : List Rule) → AllByRecursion (λ r. p r ≡ false) P → filter p P ≡ []
 kept_none p [] a = refl
 kept_none p (x ∷ P) a = rw a.0 (kept_none p P a.1)
 
 -- what rises goes on rising
 
-rising_cons : (x : Rule) (P : List Rule) → All (λ r. x.sheet ≤ r.sheet) P → Rising P → Rising (x ∷ P)
+rising_cons : (x : Rule) (P : List Rule) → AllByRecursion (λ r. x.sheet ≤ r.sheet) P → Rising P → Rising (x ∷ P)
 rising_cons x P a r i zero ij jl = absurd (omega arith)
 rising_cons x P a r zero (suc j) ij jl = All-get_or (λ y. x.sheet ≤ y.sheet) P j no_rule (omega arith) a
 rising_cons x P a r (suc i) (suc j) ij jl = r i j (omega arith) (omega arith)
 
-rising_first : (x : Rule) (P : List Rule) → Rising (x ∷ P) → All (λ r. x.sheet ≤ r.sheet) P
+rising_first : (x : Rule) (P : List Rule) → Rising (x ∷ P) → AllByRecursion (λ r. x.sheet ≤ r.sheet) P
 rising_first x P r = All-from_get_or (λ y. x.sheet ≤ y.sheet) P no_rule (λ i l. r 0 (suc i) (omega arith) (omega arith))
 
 rising_rest : (x : Rule) (P : List Rule) → Rising (x ∷ P) → Rising P

@@ -1,7 +1,7 @@
 -- Lists of rules that are laid on and withdrawn from.
 use Rattle.std.specs.Prelude.{◌≡◌, ℕ, ◌-◌, ◌<◌, ◌≤◌, Bool, true, cond, List, [], ◌∷◌, ◌++◌, length, filter, nat_le, nat_lt}
 use Rattle.std.proofs.Common.{ap, ◌∙◌, ⊎_elim, arith}
-use Rattle.std.specs.List.{AllByRecursion as All}
+use Rattle.std.specs.List.{AllByRecursion}
 use Rattle.std.proofs.ByRecursion.{All-get_or, All-from_get_or, All-push, All-weaker}
 use Rattle.std.proofs.lemmas.Bool.{cases_Bool, ltb-true, le-leb, le-ltb}
 use Rattle.rules.specs.declared.record.Record.{Record}
@@ -14,14 +14,14 @@ use Rattle.racks.specs.Tables.{push_room}
 use Rattle.laying.specs.Laying.{under, used, below_floor}
 use Rattle.laying.specs.Chosen.{kept_all, kept_none}
 
-pub all_of : (Q : Rule → Type 0) (P : List Rule) → Throughout Q P → All Q P
+pub all_of : (Q : Rule → Type 0) (P : List Rule) → Throughout Q P → AllByRecursion Q P
 all_of Q P t = All-from_get_or Q P no_rule t
 
-pub throughout : (Q : Rule → Type 0) (P : List Rule) → All Q P → Throughout Q P
+pub throughout : (Q : Rule → Type 0) (P : List Rule) → AllByRecursion Q P → Throughout Q P
 throughout Q P a k l = All-get_or Q P k no_rule l a
 
 -- over the floor 0 every rule takes a place
-pub every : (Q : Rule → Type 0) (P : List Rule) → ((r : Rule) → Q r) → All Q P
+pub every : (Q : Rule → Type 0) (P : List Rule) → ((r : Rule) → Q r) → AllByRecursion Q P
 every Q P h = All-from_get_or Q P no_rule (λ i _. h _)
 
 pub used_all : (m : Meaning) → used m 0 ≡ length m.rules
@@ -46,7 +46,7 @@ rising_push n s P x l t r =
     (λ i j ij jl. absurd (omega arith))
 
 -- without the top sheet
-sound_lower : (n s t : ℕ) (P : List Rule) → All (Sound n s) P → All (Sound n t) (filter (under t) P)
+sound_lower : (n s t : ℕ) (P : List Rule) → AllByRecursion (Sound n s) P → AllByRecursion (Sound n t) (filter (under t) P)
 sound_lower n s t [] a = tt
 sound_lower n s t (x ∷ P) a =
     let rest = sound_lower n s t P a.1 in

@@ -1,4 +1,6 @@
 // Racks whose sheets are begun, laid on and withdrawn.
+#![tactic(auto)]
+
 pub mod fault;
 pub mod open_rack;
 pub mod pocket;

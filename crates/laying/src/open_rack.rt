@@ -15,15 +15,15 @@ pub trait OpenRack: Rack {
 
     // A new sheet on top, with no rule yet.
     fn begin(&mut self) -> Result<(), RackFault>
-        ensures { Begins (ground (meaning self.old) (floor self.old) (places self.old)) result (ground (meaning self.new) (floor self.new) (places self.new)) };
+        ensures { Begins (ground (Self.Rack.meaning self.old) (floor self.old) (places self.old)) result (ground (Self.Rack.meaning self.new) (floor self.new) (places self.new)) };
 
     // One rule more on the top sheet.
     fn lay(&mut self, record: Record) -> Result<(), RackFault>
-        ensures { Lays (ground (meaning self.old) (floor self.old) (places self.old)) «record» result (ground (meaning self.new) (floor self.new) (places self.new)) };
+        ensures { Lays (ground (Self.Rack.meaning self.old) (floor self.old) (places self.old)) «record» result (ground (Self.Rack.meaning self.new) (floor self.new) (places self.new)) };
 
     // The top sheet goes, with its rules.
     fn withdraw(&mut self) -> Result<(), RackFault>
-        ensures { Withdraws (ground (meaning self.old) (floor self.old) (places self.old)) result (ground (meaning self.new) (floor self.new) (places self.new)) };
+        ensures { Withdraws (ground (Self.Rack.meaning self.old) (floor self.old) (places self.old)) result (ground (Self.Rack.meaning self.new) (floor self.new) (places self.new)) };
 
-    ghost grounded: { (x : Self) → Grounded (meaning x) (floor x) (places x) };
+    ghost grounded: { (x : Self) → Grounded (Self.Rack.meaning x) (floor x) (places x) };
 }

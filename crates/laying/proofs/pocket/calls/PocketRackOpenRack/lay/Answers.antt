@@ -16,30 +16,23 @@ returns-then-len-ge-PLACES c =
     let u = used_all m in
     (lay_full (ground m 0 64) c.args.record (omega arith) c.in-Some.ensures.0 (omega arith), refl)
 
-pub invariant-of-self : goal.invariant-of-self
-invariant-of-self c =
+pub invariant_of-self : goal.invariant_of-self
+invariant_of-self c =
     let s = c.args.self.now in
     let P = held s.table in
     let x = c.args.record in
     let h = c.in-Some.ensures in
     let e = laid_push c.push.result P (held c.push.new.self) c.in-Some.rule (ruled (s.sheets - 1) x) (omega arith) c.push.ensures.value c.push.ensures.after h.1 in
     let n = ap length e in
-    let k = length_push P (ruled (s.sheets - 1) x) in (
-      s.some,
-      (
-        s.few,
-        (
-          s.low,
-          (
-            omega arith,
-            (
-              subst (Throughout (Sound s.matters s.sheets)) (sym e) (sound_push s.matters s.sheets P x (omega arith) h.0 s.sound),
-              (subst Rising (sym e) (rising_push s.matters s.sheets P x (omega arith) s.sound s.rising), tt),
-            ),
-          ),
-        ),
-      ),
-    )
+    let k = length_push P (ruled (s.sheets - 1) x) in
+    record {
+      some = s.some;
+      few = s.few;
+      low = s.low;
+      housed = omega arith;
+      sound = subst (Throughout (Sound s.matters s.sheets)) (sym e) (sound_push s.matters s.sheets P x (omega arith) h.0 s.sound);
+      rising = subst Rising (sym e) (rising_push s.matters s.sheets P x (omega arith) s.sound s.rising);
+    }
 
 pub returns : goal.returns
 returns c =
