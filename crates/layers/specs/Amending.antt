@@ -1,7 +1,7 @@
 -- The calls on own sheets are the calls on the pile.
 use Rattle.std.specs.Prelude.{◌≡◌, ℕ, ◌+◌, ◌-◌, ◌<◌, ◌≤◌, Bool, true, false, cond, leb, List, [], ◌∷◌, ◌++◌, map, length, is_some, Some, None, Ok, Err, filter, Option, Result, ◌≢◌, nat_le, nat_lt, refl}
 use Rattle.std.proofs.Common.{sym, ap, subst, ◌∙◌, ⊎_elim, arith}
-use Rattle.std.specs.List.{AllByRecursion as All}
+use Rattle.std.specs.List.{AllByRecursion}
 use Rattle.std.proofs.lemmas.List.{append-nil, append_assoc, length-map, length_push, map_push}
 use Rattle.std.proofs.lemmas.List.Elements.{filter-append}
 use Rattle.std.proofs.ByRecursion.{All-map, All-weaker}
@@ -25,7 +25,7 @@ use Rattle.layers.specs.OverLemmas.{Fit, fit_from, fits_from}
 
 -- own rules stand above the floor, and the rules below stand under it
 module _ (m o : Meaning) (k : Kept m) where
-  low : All (λ r. r.sheet < m.sheets) m.rules
+  low : AllByRecursion (λ r. r.sheet < m.sheets) m.rules
   low = All-weaker (Sound m.matters m.sheets) (λ r. r.sheet < m.sheets) (λ r t. t.0) m.rules (all_of (Sound m.matters m.sheets) m.rules k.sound)
 
   none_above : filter (λ r. leb m.sheets r.sheet) m.rules ≡ []

@@ -1,7 +1,7 @@
 -- Own sheets on top of a rack keep to what every rack keeps to.
 use Rattle.std.specs.Prelude.{◌≡◌, ℕ, ◌+◌, ◌<◌, ◌≤◌, Bool, true, false, cond, List, [], ◌∷◌, ◌++◌, map, length, take, ◌==◌, nat_le, nat_lt, slice_index_or, refl}
 use Rattle.std.proofs.Common.{sym, ap, subst, ◌∙◌, arith}
-use Rattle.std.specs.List.{AllByRecursion as All}
+use Rattle.std.specs.List.{AllByRecursion}
 use Rattle.std.proofs.lemmas.List.{append_assoc, length-append, length-map, length-take-le, get_or-map, map_more}
 use Rattle.std.proofs.ByRecursion.{All-append, All-map, All-weaker}
 use Rattle.std.proofs.lemmas.Bool.{and_from, and_parts, eqb-true, eq-eqb, leb-true, le-leb}
@@ -72,8 +72,8 @@ over_kept true m o k h e =
     let l = length_over s P Q in
     let few = k.few_rules in
     let own = f.few_rules in
-    let low : All (Sound n s) P = all_of (Sound n s) P k.sound in
-    let high : All (Sound n o.sheets) Q = all_of (Sound n o.sheets) Q (subst (λ (j : ℕ). Throughout (Sound j o.sheets) Q) f.same_matters h.sound) in
+    let low : AllByRecursion (Sound n s) P = all_of (Sound n s) P k.sound in
+    let high : AllByRecursion (Sound n o.sheets) Q = all_of (Sound n o.sheets) Q (subst (λ (j : ℕ). Throughout (Sound j o.sheets) Q) f.same_matters h.sound) in
     record {
       some_matters = k.some_matters;
       few_matters = k.few_matters;

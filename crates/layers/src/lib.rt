@@ -1,4 +1,6 @@
 // Layers: racks that stand on any other rack.
+#![tactic(auto)]
+
 pub mod amended;
 mod lookup;
 pub mod showing;

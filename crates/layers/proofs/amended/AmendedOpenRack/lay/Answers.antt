@@ -13,7 +13,7 @@ returns-then-own-places g c =
     let x = c.args.record in
     let m = g.R.Rack.meaning s.below in
     let o = pocket_meaning s.own in
-    let a = admitted m o x c.settle-below.result c.shape-own.result c.check.result c.settle-below.ensures.shape c.shape-own.ensures c.if-own-eq0.false c.check.ensures c.if-is-none.ensures in
+    let a = admitted m o x c.settle-below.result c.shape-own.result c.check.result c.settle-below.ensures.shape c.shape-own.ensures c.if-own-eq0.false c.check.ensures c.if-is_none.ensures in
     let l = c.places.ensures ∙ ap own_places c.settle-below.ensures.shape in
     let n = ap (λ (y : Shape). y.rules) c.shape-own.ensures in
     subst (λ (h : Ground). Lays {U = Unit {0}} h x (Err PlacesFull) (stood m o)) c.settle-below.ensures.same (full_refused m o (g.met.R.Rack.kept s.below) c.settle-below.ensures.fit x a.0 a.1 (omega arith))
@@ -26,7 +26,7 @@ returns g c =
     let o = pocket_meaning s.own in
     let p = pocket_meaning c.lay.new.self in
     let r = c.lay.result in
-    let a = admitted m o x c.settle-below.result c.shape-own.result c.check.result c.settle-below.ensures.shape c.shape-own.ensures c.if-own-eq0.false c.check.ensures c.if-is-none.ensures in
+    let a = admitted m o x c.settle-below.result c.shape-own.result c.check.result c.settle-below.ensures.shape c.shape-own.ensures c.if-own-eq0.false c.check.ensures c.if-is_none.ensures in
     let l = c.places.ensures ∙ ap own_places c.settle-below.ensures.shape in
     let n = ap (λ (y : Shape). y.rules) c.shape-own.ensures in
     subst (λ (h : Ground). Lays h x r (stood m p)) c.settle-below.ensures.same (lay_over m o p (g.met.R.Rack.kept s.below) c.settle-below.ensures.fit x r a.0 a.1 (omega arith) c.lay.ensures)

@@ -17,7 +17,7 @@ returns g c =
     record {
       shape = shaped_amended m o x y _ c.survey.ensures.shape c.shape-own.ensures c.on_top.ensures;
       rules = elim c.if-fits.branch [
-        | then-fits w ↦ ap held w.table-is ∙ rules_with_own m o x y _ c.survey.ensures.shape c.shape-own.ensures w.if-fits.ensures (w.append.ensures ∙ ap (λ (P : List Rule). P ++ map (raised x.sheets) w.as-slice.result.now) c.survey.ensures.rules ∙ ap (λ (Q : List Rule). m.rules ++ map (raised x.sheets) Q) (w.as-slice.ensures ∙ w.read.ensures))
+        | then-fits w ↦ ap held w.table-is ∙ rules_with_own m o x y _ c.survey.ensures.shape c.shape-own.ensures w.if-fits.ensures (w.append.ensures ∙ ap (λ (P : List Rule). P ++ map (raised x.sheets) w.as_slice.result.now) c.survey.ensures.rules ∙ ap (λ (Q : List Rule). m.rules ++ map (raised x.sheets) Q) (w.as_slice.ensures ∙ w.read.ensures))
         | else-fits w ↦ ap held w.table-is ∙ rules_without m o x y _ c.survey.ensures.shape c.shape-own.ensures w.if-fits.ensures c.survey.ensures.rules
       ];
     }
