@@ -2,3 +2,4 @@ pub mod SetOfs
 pub mod Sifted
 pub mod Opposing
 pub mod Readiness
+pub mod Subsets

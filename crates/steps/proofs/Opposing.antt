@@ -6,12 +6,12 @@ use Rattle.rules.specs.declared.rule.Rule.{Rule}
 use Rattle.rules.specs.declared.rule.Sign.{Sign}
 use Rattle.rules.specs.declared.rule.Sign.TheVariants.{Yes, No}
 use Rattle.rules.specs.Parts.{no_rule}
-use Rattle.rules.specs.Semantics.{Mem, LiteralSet, ◌⊆◌, ◌∈◌, body, opposite, Overruling, Rejected, Survives, Default, Affirms}
+use Rattle.rules.specs.Semantics.{Mem, LiteralSet, ◌⊆◌, ◌∈◌, body, opposite, Overruling, Rejected, Survives}
 use Rattle.rules.proofs.Bitwise.{mem_or_left, mem_or_right, mem_or_cases, mem_one, mem_one_is, not_in_zero}
 use Rattle.rules.proofs.Computed.{placed, place_of}
 use Rattle.rules.proofs.Literals.{yes≢no}
 use Rattle.steps.specs.declared.claims.Claims.{Claims}
-use Rattle.steps.specs.Claiming.{claimed, ClaimsBy, Early, ClaimedEarly, Claimed, Added, Noted, Unclaimed, Against, Standing}
+use Rattle.steps.specs.Claiming.{claimed, ClaimsBy, ClaimedEarly, Claimed, Added, Noted, Unclaimed, Against, Standing}
 use Rattle.steps.specs.Parts.{Members, SetOf, Ready, Tabled}
 use Rattle.steps.proofs.SetOfs.{First, set_same, empty_zero}
 

@@ -1,5 +1,5 @@
 -- The rules that survive are ready for the closure, which is then the step.
-use Rattle.std.proofs.Common.{◌≡◌, ℕ, ◌<◌, ◌≤◌, List, subst, arith}
+use Rattle.std.proofs.Common.{◌≡◌, ℕ, List, subst, arith}
 use Rattle.rules.specs.declared.rule.Rule.{Rule}
 use Rattle.rules.specs.Semantics.{LiteralSet, Mem, ◌∈◌, Overruling, Formed, Survives, Default, Closure, Step}
 use Rattle.rules.proofs.Theory.{closure_same}

@@ -3,3 +3,4 @@ pub mod Parts
 pub mod Ruling
 pub mod Claiming
 pub mod Modelling
+pub mod Subsets

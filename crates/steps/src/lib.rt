@@ -1,4 +1,6 @@
 // The two steps, and the turns of them that find the well-founded model, over a list of rules and the tables of an order.
+#![tactic(auto)]
+
 pub mod bits;
 pub mod claims;
 pub mod closure;

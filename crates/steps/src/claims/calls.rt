@@ -1,4 +1,4 @@
-ghost use Rattle.std.specs.Prelude.{◌≡◌, ℕ, ◌^◌, ◌<◌, ◌≤◌, set, bit_or, slice_index, slice_set};
+ghost use Rattle.std.specs.Prelude.{◌≡◌, ℕ, ◌^◌, ◌<◌, ◌≤◌, bit_or, slice_index, slice_set};
 ghost use Rattle.steps.specs.Parts.{Ready};
 ghost use Rattle.steps.specs.Claiming.{claimed, Claimed, Added, Noted, Unclaimed};
 

@@ -1,4 +1,4 @@
-use Rattle.std.proofs.Common.{◌≡◌, ℕ, eqb, subst}
+use Rattle.std.proofs.Common.{eqb, subst}
 use lib.Bits.{bit_and}
 use Rattle.std.proofs.lemmas.Bool.Decides.{Decides-eqb, Decides-not, Decides-like}
 use Rattle.rules.specs.Semantics.{Mem}

@@ -1,4 +1,4 @@
-use Rattle.std.proofs.Common.{◌≡◌, ◌+◌, ◌<◌, sym, ◌∙◌, subst, true≢false, arith}
+use Rattle.std.proofs.Common.{◌+◌, ◌<◌, sym, ◌∙◌, subst, true≢false, arith}
 use Rattle.rules.specs.Parts.{Round}
 use Rattle.rules.proofs.Literals.{grown}
 use Rattle.rules.proofs.Theory.{below_start, below_more, below_end}

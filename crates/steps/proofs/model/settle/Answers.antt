@@ -1,4 +1,4 @@
-use Rattle.std.proofs.Common.{◌≡◌, ℕ, ◌+◌, ◌*◌, ◌≤◌, sym, ◌∙◌, subst, true≢false, arith}
+use Rattle.std.proofs.Common.{◌+◌, ◌*◌, ◌≤◌, sym, ◌∙◌, subst, true≢false, arith}
 use Rattle.rules.specs.Semantics.{LiteralSet, Overruling, Turn}
 use Rattle.rules.proofs.Rounds.{Counted, counted_start, counted_few, counted_more, counted_end}
 use Rattle.rules.proofs.Theory.{rests_well_founded}
@@ -14,8 +14,8 @@ more c over t = counted_more (c.turns.invariant over t) (record { between = c.st
 few : (c : goal.Else-same) → c.turns.rounds + 1 ≤ 2 * c.args.matters
 few c = counted_few c.requires.0.formed (more c c.requires.1.0 c.requires.1.1)
 
-pub overflow-add-rounds : goal.overflow-add-rounds
-overflow-add-rounds c = let l = few c in omega (arith, c.requires.0.few_matters)
+pub overflow_add-rounds : goal.overflow_add-rounds
+overflow_add-rounds c = let l = few c in omega (arith, c.requires.0.few_matters)
 
 pub turns-smaller : goal.turns-smaller
 turns-smaller c = let l = few c in omega arith

@@ -1,4 +1,4 @@
-use Rattle.std.proofs.Common.{◌<◌, arith}
+use Rattle.std.proofs.Common.{arith}
 use Rattle.rules.proofs.Computed.{placed}
 use Rattle.steps.proofs.Opposing.{claimed_none, claimed_more, claimed_all}
 use Rattle.steps.proofs.claims.Claims.in_set.Goals as goal
