@@ -1,10 +1,10 @@
 -- In which lanes of a block a body is true.
-use Rattle.std.proofs.Common.{◌≡◌, ℕ, ◌^◌, ◌<◌, get_or, ⊎_elim}
+use Rattle.std.proofs.Common.{ℕ, ◌^◌, ◌<◌, get_or, ⊎_elim}
 use lib.Bits.{bit_and}
 use Rattle.rules.specs.declared.rule.Rule.{Rule}
 use Rattle.rules.specs.declared.rule.Sign.TheVariants.{Yes, No}
 use Rattle.rules.specs.Semantics.{Mem, LiteralSet, ◌⊆◌, body}
-use Rattle.rules.proofs.Bitwise.{mem_cases, mem_and, mem_and_left, mem_and_right, mem_below, not_in_zero}
+use Rattle.rules.proofs.Bitwise.{mem_cases, mem_and, mem_and_left, mem_below, not_in_zero}
 use Rattle.steps.specs.Parts.{SetOf}
 use Rattle.steps.proofs.SetOfs.{set_same}
 use Rattle.lanes.specs.declared.block.Block.{Block}

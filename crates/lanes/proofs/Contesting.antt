@@ -1,18 +1,17 @@
 -- What a contest says of the rules about a matter.
-use Rattle.std.proofs.Common.{◌≡◌, ℕ, ◌-◌, ◌^◌, ◌<◌, true, ◌⊎◌, List, length, get_or, sym, refl, ap, ◌∙◌, subst, inl, inr, ⊎_elim, arith}
+use Rattle.std.proofs.Common.{◌≡◌, ℕ, ◌-◌, ◌^◌, ◌<◌, true, List, get_or, sym, refl, ap, ◌∙◌, subst, inl, inr, ⊎_elim, arith}
 use lib.Bits.{bit_and, bit_or}
 use Rattle.rules.specs.declared.rule.Rule.{Rule}
 use Rattle.rules.specs.declared.rule.Sign.{Sign}
 use Rattle.rules.specs.declared.rule.Sign.TheVariants.{Yes, No}
 use Rattle.rules.specs.Parts.{no_rule}
-use Rattle.rules.specs.Semantics.{Mem, LiteralSet, Holds, ◌⊆◌, ◌∈◌, body, opposite, Overruling, Rejected, Survives, Affirms, Default}
+use Rattle.rules.specs.Semantics.{Mem, LiteralSet, Holds, ◌⊆◌, ◌∈◌, body, opposite, Overruling, Rejected, Default}
 use Rattle.rules.proofs.Bitwise.{rest_mem, mem_below, not_in_zero}
 use Rattle.rules.proofs.Computed.{placed, place_of}
-use Rattle.rules.proofs.Literals.{opposite_opposite}
 use Rattle.steps.specs.Parts.{SetOf, Tabled, Members}
 use Rattle.steps.proofs.SetOfs.{set_same}
 use Rattle.lanes.specs.declared.contest.Contest.{Contest}
-use Rattle.lanes.specs.Claiming.{Asserts, Asserted, Among, Noted}
+use Rattle.lanes.specs.Claiming.{Asserts, Among}
 use Rattle.lanes.specs.Contesting.{side, Contested, Fair, Unrejected, About}
 use Rattle.lanes.specs.Settling.{Backed, Stands}
 use Rattle.lanes.specs.Founding.{Live}

@@ -1,13 +1,13 @@
 -- Entering firings, and what is reached by them.
-use Rattle.std.proofs.Common.{◌≡◌, ℕ, ◌+◌, ◌-◌, ◌/◌, ◌%◌, ◌^◌, ◌<◌, ◌≤◌, Bool, true, false, eqb, ◌⊎◌, List, length, get_or, set, sym, refl, ap, ◌∙◌, subst, inl, inr, ⊎_elim, arith, get_or-set_other, get_or-set_same, pow_pos}
+use Rattle.std.proofs.Common.{◌≡◌, ℕ, ◌+◌, ◌-◌, ◌/◌, ◌%◌, ◌^◌, ◌<◌, ◌≤◌, eqb, ◌⊎◌, List, length, get_or, set, sym, refl, ap, ◌∙◌, subst, inl, inr, ⊎_elim, arith, get_or-set_other, get_or-set_same, pow_pos}
 use lib.Bits.{bit_and, bit_or}
-use Rattle.std.proofs.lemmas.Bool.{cases_lt, cases_eq, eqb-true, eq-eqb}
+use Rattle.std.proofs.lemmas.Bool.{cases_lt, eqb-true, eq-eqb}
 use Rattle.rules.specs.declared.rule.Rule.{Rule}
 use Rattle.rules.specs.declared.rule.Sign.{Sign}
 use Rattle.rules.specs.declared.rule.Sign.TheVariants.{Yes, No}
 use Rattle.rules.specs.Parts.{no_rule}
-use Rattle.rules.specs.Semantics.{Mem, LiteralSet, Holds, ◌⊆◌, ◌∈◌, body, Overruling, Total, Formed, Survives, Default, Closed, Step, settled}
-use Rattle.rules.proofs.Bitwise.{mem_cases, mem_and, mem_and_left, mem_and_right, mem_or_left, mem_or_right, mem_or_cases, mem_below, rest_mem, not_in_zero}
+use Rattle.rules.specs.Semantics.{Mem, LiteralSet, Holds, ◌⊆◌, body, Overruling, Total, Formed, Survives, Default, Closed, Step, settled}
+use Rattle.rules.proofs.Bitwise.{mem_cases, mem_or_left, mem_or_right, mem_or_cases, mem_below, rest_mem, not_in_zero}
 use Rattle.rules.proofs.Computed.{placed, place_of, gathered, gathered_has, gathered_only}
 use Rattle.rules.proofs.Literals.{settled_one, settled_other, ⊆_trans, meet, meet_both, meet_left, meet_right}
 use Rattle.steps.specs.Parts.{SetOf, Members}
@@ -15,7 +15,7 @@ use Rattle.steps.proofs.SetOfs.{set_same}
 use Rattle.lanes.specs.declared.firing.Firing.{Firing}
 use Rattle.lanes.specs.declared.firing.Firings.{Firings}
 use Rattle.lanes.specs.Contesting.{About}
-use Rattle.lanes.specs.Firing.{no_firing, at, Follows, Lanes, Comes, Reached, Low}
+use Rattle.lanes.specs.Firing.{no_firing, at, Follows, Lanes, Reached, Low}
 use Rattle.lanes.specs.Firing.Follows.{by}
 use Rattle.lanes.specs.Founding.{OfDefault, OfRule, Live, Reason, Entry, Holding, HoldingTo, FoundedIn}
 use Rattle.lanes.specs.Settling.{Stands}

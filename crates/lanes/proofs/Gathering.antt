@@ -7,11 +7,11 @@ use Rattle.rules.specs.declared.rule.Rule.{Rule}
 use Rattle.rules.specs.declared.rule.Sign.{Sign}
 use Rattle.rules.specs.Parts.{no_rule}
 use Rattle.rules.specs.Semantics.{Mem, LiteralSet, ◌⊆◌, body}
-use Rattle.rules.proofs.Bitwise.{mem_and, mem_and_left, mem_and_right, mem_or_left, mem_or_right, mem_or_cases, mem_one, mem_one_is, not_in_zero}
+use Rattle.rules.proofs.Bitwise.{mem_and, mem_and_right, mem_or_left, mem_or_right, mem_or_cases, mem_one, mem_one_is, not_in_zero}
 use Rattle.steps.specs.Parts.{SetOf}
 use Rattle.steps.proofs.SetOfs.{set_same, zero_at}
 use Rattle.lanes.specs.declared.claimants.Claimants.{Claimants}
-use Rattle.lanes.specs.Claiming.{Asserts, Asserted, Gathered, Noted, Added, Among}
+use Rattle.lanes.specs.Claiming.{Asserted, Gathered, Noted, Added, Among}
 
 pub noted_none : (c : Claimants) → c.lanes ≡ replicate 32 0 → c.sheets ≡ 0 → Noted c
 noted_none c e z = record {

@@ -1,17 +1,16 @@
 -- How a block is filled, matter by matter; each half of it has the words of one sign.
-use Rattle.std.proofs.Common.{◌≡◌, ℕ, ◌+◌, ◌-◌, ◌^◌, ◌<◌, ◌≤◌, ◌⊎◌, List, length, get_or, set, replicate, sym, refl, ap, ◌∙◌, subst, inl, inr, ⊎_elim, arith, get_or-set_other, get_or-set_same, pow_pos}
+use Rattle.std.proofs.Common.{◌≡◌, ℕ, ◌+◌, ◌-◌, ◌^◌, ◌<◌, ◌≤◌, List, length, get_or, set, replicate, sym, ap, ◌∙◌, subst, ⊎_elim, arith, get_or-set_other, get_or-set_same, pow_pos}
 use lib.Bits.{bit_or}
-use Rattle.std.proofs.lemmas.Bool.{cases_lt, cases_eq}
-use Rattle.rules.specs.declared.rule.Sign.{Sign}
+use Rattle.std.proofs.lemmas.Bool.{cases_lt}
 use Rattle.rules.specs.declared.rule.Sign.TheVariants.{Yes, No}
-use Rattle.rules.specs.Semantics.{Mem, LiteralSet, Holds, settled}
-use Rattle.rules.proofs.Bitwise.{mem_cases, mem_or_left, mem_or_right, mem_or_cases, mem_one, mem_one_is, mem_below, rest_mem, rest_not, below_from_members, not_in_zero}
+use Rattle.rules.specs.Semantics.{Mem, LiteralSet, settled}
+use Rattle.rules.proofs.Bitwise.{mem_or_left, mem_or_right, mem_or_cases, mem_one, mem_one_is, mem_below, rest_mem, rest_not, below_from_members, not_in_zero}
 use Rattle.steps.specs.Parts.{SetOf}
 use Rattle.steps.proofs.SetOfs.{set_same, zero_at}
 use Rattle.lanes.specs.declared.block.Block.{Block}
 use Rattle.lanes.specs.declared.block.side.Side.{Side}
 use Rattle.lanes.specs.declared.block.side.Side.TheVariants.{In, Out, Varying}
-use Rattle.lanes.specs.Blocks.{words, Has}
+use Rattle.lanes.specs.Blocks.{Has}
 use Rattle.lanes.specs.Sides.{Takes, PutAs}
 use Rattle.lanes.proofs.LaneSets.{set_full, set_not}
 

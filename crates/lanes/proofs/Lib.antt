@@ -1,4 +1,3 @@
-pub mod Subsets
 pub mod Lowest
 pub mod LaneSets
 pub mod Bodies

@@ -1,11 +1,11 @@
 -- A two-valued set stands under the broad step exactly if each matter stands and the closure reaches all of it.
-use Rattle.std.proofs.Common.{◌≡◌, ℕ, ◌^◌, ◌<◌, true, ◌⊎◌, List, sym, refl, ap, ◌∙◌, subst, subst₂, inl, inr, ⊎_elim}
+use Rattle.std.proofs.Common.{◌≡◌, ℕ, ◌^◌, ◌<◌, List, sym, refl, ap, ◌∙◌, subst, inl, inr, ⊎_elim}
 use Rattle.rules.specs.declared.rule.Rule.{Rule}
 use Rattle.rules.specs.declared.rule.Sign.{Sign}
 use Rattle.rules.specs.declared.rule.Sign.TheVariants.{Yes, No}
-use Rattle.rules.specs.Semantics.{Mem, LiteralSet, Holds, ◌⊆◌, ◌∈◌, body, opposite, Overruling, Total, Rejects, Rejected, Survives, Affirms, Default, Closed, Closure, Step, Outcome, settled, Formed}
-use Rattle.rules.proofs.Bitwise.{mem_cases, mem_below, mem_and, mem_and_left, mem_and_right}
-use Rattle.rules.proofs.Literals.{yes≢no, sign_cases, opposite_opposite, ⊆_trans, holds_cases, settled_other, settled_one, meet, meet_both, meet_left, meet_right}
+use Rattle.rules.specs.Semantics.{Holds, ◌⊆◌, body, opposite, Overruling, Total, Survives, Default, Closed, Step, settled, Formed}
+use Rattle.rules.proofs.Bitwise.{mem_cases}
+use Rattle.rules.proofs.Literals.{yes≢no, sign_cases, opposite_opposite, settled_other}
 use Rattle.rules.proofs.Theory.{supported}
 use Rattle.lanes.specs.Settling.{Backed, Stands}
 

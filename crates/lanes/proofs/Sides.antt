@@ -1,5 +1,5 @@
 -- Bits of a lane's number.
-use Rattle.std.proofs.Common.{◌≡◌, ℕ, zero, suc, ◌+◌, ◌-◌, ◌*◌, ◌/◌, ◌%◌, ◌^◌, ◌<◌, ◌≤◌, Bool, true, false, ◌&&◌, eqb, ltb, ◌⊎◌, List, [], ◌∷◌, get_or, sym, refl, ap, ◌∙◌, subst, inl, inr, ⊎_elim, arith}
+use Rattle.std.proofs.Common.{◌≡◌, ℕ, zero, suc, ◌+◌, ◌-◌, ◌/◌, ◌%◌, ◌^◌, ◌<◌, ◌≤◌, Bool, true, ◌&&◌, eqb, ltb, List, [], ◌∷◌, get_or, sym, refl, ap, ◌∙◌, ⊎_elim, arith}
 use lib.Bits.{bit_or}
 use Rattle.std.proofs.lemmas.Nat.{shr-shr}
 use Rattle.std.proofs.lemmas.Bool.{cases_lt, and_parts, eqb-true, ltb-true}
@@ -9,8 +9,8 @@ use Rattle.steps.specs.Parts.{SetOf}
 use Rattle.lanes.specs.declared.block.side.Side.{Side}
 use Rattle.lanes.specs.declared.block.side.Side.TheVariants.{In, Out, Varying}
 use Rattle.lanes.specs.Sides.{Takes}
-use Rattle.lanes.specs.Subsets.{rank, part}
-use Rattle.lanes.proofs.Subsets.{part_bit}
+use Rattle.steps.specs.Subsets.{rank, part}
+use Rattle.steps.proofs.Subsets.{part_bit}
 
 -- a test at each number below k, computed
 abbrev below_all : ℕ → (ℕ → Bool) → Bool

@@ -1,5 +1,5 @@
 -- The rules that a trial has about a matter, and sweeps over the matters.
-use Rattle.std.proofs.Common.{◌≡◌, ℕ, ◌+◌, ◌-◌, ◌^◌, ◌<◌, ◌≤◌, Bool, true, not, ◌&&◌, eqb, ◌⊎◌, List, length, get_or, take, drop, filter, sym, refl, ap, ◌∙◌, subst, inl, inr, ⊎_elim, arith, length-drop}
+use Rattle.std.proofs.Common.{◌≡◌, ℕ, ◌+◌, ◌-◌, ◌^◌, ◌<◌, ◌≤◌, true, not, eqb, List, length, get_or, drop, filter, sym, ap, ◌∙◌, subst, ⊎_elim, arith, length-drop}
 use lib.Bits.{bit_and}
 use Rattle.std.proofs.lemmas.List.{length-take-le}
 use Rattle.std.proofs.lemmas.Bool.{cases_lt, and_from, and_parts, eqb-true, eq-eqb}
@@ -9,10 +9,10 @@ use Rattle.rules.specs.Held.{held}
 use Rattle.rules.specs.Semantics.{Mem, LiteralSet, ◌∈◌, Overruling, body, holds, struck, Formed}
 use Rattle.rules.proofs.Bitwise.{mem_and, mem_and_left, mem_and_right, mem_below, not_in_zero}
 use Rattle.rules.proofs.Computed.{kept_mem, mem_kept}
-use Rattle.steps.specs.Parts.{SetOf, Ready, Tabled, Members}
+use Rattle.steps.specs.Parts.{SetOf, Members}
 use Rattle.lanes.specs.declared.trial.Trial.{Trial}
 use Rattle.lanes.specs.Contesting.{About}
-use Rattle.lanes.specs.Docketing.{about, group, Docketed}
+use Rattle.lanes.specs.Docketing.{about, group}
 use Rattle.lanes.specs.Settling.{Stands}
 use Rattle.lanes.specs.Trying.{Sound, StandFrom}
 

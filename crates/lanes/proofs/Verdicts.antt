@@ -1,8 +1,8 @@
 -- The lanes that a trial leaves are those of outcomes.
-use Rattle.std.proofs.Common.{◌≡◌, ℕ, zero, suc, ◌^◌, ◌<◌, ◌≤◌, ◌⊎◌, List, subst, inl, inr, ⊎_elim, arith}
+use Rattle.std.proofs.Common.{◌≡◌, ℕ, zero, suc, ◌^◌, ◌<◌, ◌≤◌, List, subst, ⊎_elim, arith}
 use Rattle.std.proofs.lemmas.Bool.{cases_lt}
 use Rattle.rules.specs.declared.rule.Rule.{Rule}
-use Rattle.rules.specs.Semantics.{Mem, LiteralSet, Overruling, Total, Formed, Step, Outcome, settled, struck}
+use Rattle.rules.specs.Semantics.{Mem, Overruling, Total, Formed, Outcome, settled, struck}
 use Rattle.rules.proofs.Bitwise.{mem_cases, not_in_zero}
 use Rattle.rules.proofs.Tautologies.{same_outcome, struck_same, turned}
 use Rattle.steps.specs.Parts.{SetOf}

@@ -1,5 +1,5 @@
 -- The two sides of a contest about a matter.
-use Rattle.std.specs.Prelude.{◌≡◌, ℕ, ◌<◌, List, length, slice_index}
+use Rattle.std.specs.Prelude.{◌≡◌, ℕ, List, length, slice_index}
 use Rattle.rules.specs.declared.rule.Rule.{Rule}
 use Rattle.rules.specs.declared.rule.Sign.{Sign}
 use Rattle.rules.specs.declared.rule.Sign.TheVariants.{Yes, No}

@@ -1,4 +1,3 @@
-pub mod Subsets
 pub mod Blocks
 pub mod Claiming
 pub mod Settling

@@ -2,7 +2,7 @@
 use Rattle.std.specs.Prelude.{◌≡◌, ℕ, ◌^◌, ◌<◌, ◌≤◌, List, length}
 use Rattle.rules.specs.declared.rule.Rule.{Rule}
 use Rattle.rules.specs.Semantics.{Mem, LiteralSet, Overruling, settled, struck}
-use Rattle.steps.specs.Parts.{SetOf, Ready, Tabled}
+use Rattle.steps.specs.Parts.{Ready, Tabled}
 use Rattle.lanes.specs.declared.trial.Trial.{Trial}
 use Rattle.lanes.specs.declared.block.Block.{Block}
 use Rattle.lanes.specs.Blocks.{Has}

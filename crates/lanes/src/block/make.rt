@@ -1,7 +1,7 @@
 ghost use Rattle.std.specs.Prelude.{◌≡◌, ℕ, ◌+◌, ◌%◌, ◌^◌, ◌<◌, ◌≤◌, replicate, bit_or};
 ghost use Rattle.rules.specs.Semantics.{Mem, settled};
 ghost use Rattle.lanes.specs.Blocks.{Has};
-ghost use Rattle.lanes.specs.Subsets.{rank as rank-of, part};
+ghost use Rattle.steps.specs.Subsets.{rank as rank_of, part};
 ghost use Rattle.lanes.specs.Sides.{Takes, PutAs};
 
 use crate::block::Block;
@@ -64,7 +64,7 @@ impl Block {
 
 // Which of the candidates have the matter, if it is undecided as the one of this rank.
 fn side_of(yes: u16, undecided: u16, first: u32, a: u8, rank: u8) -> Side
-    requires { (a < 16) × ((rank ≡ rank-of undecided a) × ((first % 64 ≡ 0) × ((Mem a yes → Mem a undecided → ⊥)))) }
+    requires { (a < 16) × ((rank ≡ rank_of undecided a) × ((first % 64 ≡ 0) × ((Mem a yes → Mem a undecided → ⊥)))) }
     ensures { Takes result (λ l. Mem a (bit_or yes (part 16 undecided (first + l)))) }
 {
     if has_matter(undecided, a) {

@@ -1,5 +1,5 @@
 ghost use Rattle.std.specs.Prelude.{◌≡◌, ℕ, ◌<◌, length, replicate};
-ghost use Rattle.rules.specs.Semantics.{Mem, LiteralSet as Literals};
+ghost use Rattle.rules.specs.Semantics.{LiteralSet as Literals};
 ghost use Rattle.rules.specs.declared.rule.Rule.{Rule as SomeRule};
 ghost use Rattle.rules.specs.Semantics.{◌∈◌};
 ghost use Rattle.steps.specs.Parts.{SetOf};

@@ -1,11 +1,11 @@
-ghost use Rattle.std.specs.Prelude.{◌≡◌, ℕ, ◌<◌, List, length, slice_index};
+ghost use Rattle.std.specs.Prelude.{◌≡◌, ℕ, ◌<◌, List, slice_index};
 ghost use Rattle.rules.specs.declared.rule.Rule.{Rule as SomeRule};
-ghost use Rattle.rules.specs.Semantics.{Mem, LiteralSet as Literals, ◌∈◌, opposite, Overruling, Default};
+ghost use Rattle.rules.specs.Semantics.{Mem, LiteralSet as Literals, ◌∈◌, opposite, Overruling};
 ghost use Rattle.steps.specs.Parts.{SetOf, Tabled, Members};
 ghost use Rattle.lanes.specs.Blocks.{Has};
-ghost use Rattle.lanes.specs.Claiming.{Among, Noted};
+ghost use Rattle.lanes.specs.Claiming.{Among};
 ghost use Rattle.lanes.specs.Contesting.{side, Contested, Fair, Unrejected, About};
-ghost use Rattle.lanes.specs.Settling.{Backed, Stands};
+ghost use Rattle.lanes.specs.Settling.{Stands};
 
 use crate::block::Block;
 use crate::claimants::Claimants;

@@ -1,7 +1,7 @@
 ghost use Rattle.std.specs.Prelude.{◌≡◌, ◌+◌, ◌<◌, ◌≤◌, [], ◌++◌, length, replicate, filter, slice_index, slice_set};
 ghost use Rattle.rules.specs.Held.{held};
 ghost use Rattle.rules.specs.Semantics.{body, holds, Formed};
-ghost use Rattle.lanes.specs.Docketing.{about as is-about, group, Docketed};
+ghost use Rattle.lanes.specs.Docketing.{about as rule_about, group, Docketed};
 
 use crate::docket::{Docket, STARTS};
 use rules::rule::{Rule, Sign};
@@ -31,8 +31,8 @@ impl Docket {
 
     // Adds the rules about the matter.
     fn add(&mut self, rules: &[Rule], matter: u8)
-        requires { (matter < 16) × ((length (held self.old.rules) + length (filter (is-about matter) rules.now) ≤ 256) × (Formed 16 rules.now)) }
-        ensures { (held self.new.rules ≡ held self.old.rules ++ filter (is-about matter) rules.now) × (self.new.starts ≡ slice_set self.old.starts (matter + 1) (length (held self.new.rules))) }
+        requires { (matter < 16) × ((length (held self.old.rules) + length (filter (rule_about matter) rules.now) ≤ 256) × (Formed 16 rules.now)) }
+        ensures { (held self.new.rules ≡ held self.old.rules ++ filter (rule_about matter) rules.now) × (self.new.starts ≡ slice_set self.old.starts (matter + 1) (length (held self.new.rules))) }
     {
         gather(&mut self.rules, rules, matter);
         self.starts[matter as usize + 1] = self.rules.len();
@@ -50,8 +50,8 @@ impl Docket {
 
 // Adds the rules about the matter to the table.
 fn gather(table: &mut Table, rules: &[Rule], matter: u8)
-    requires { (length (held table.old) + length (filter (is-about matter) rules.now) ≤ 256) × (Formed 16 rules.now) }
-    ensures { held table.new ≡ held table.old ++ filter (is-about matter) rules.now }
+    requires { (length (held table.old) + length (filter (rule_about matter) rules.now) ≤ 256) × (Formed 16 rules.now) }
+    ensures { held table.new ≡ held table.old ++ filter (rule_about matter) rules.now }
 {
     for r in rules {
         if is_about(*r, matter) {
@@ -62,7 +62,7 @@ fn gather(table: &mut Table, rules: &[Rule], matter: u8)
 
 fn is_about(r: Rule, matter: u8) -> bool
     requires { r.head < 16 }
-    ensures { result ≡ is-about matter r }
+    ensures { result ≡ rule_about matter r }
 {
     r.head == matter && !is_tautology(r)
 }

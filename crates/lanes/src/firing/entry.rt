@@ -1,6 +1,6 @@
-ghost use Rattle.std.specs.Prelude.{◌≡◌, ℕ, ◌+◌, ◌<◌, ◌≤◌, List, length};
+ghost use Rattle.std.specs.Prelude.{ℕ, ◌+◌, ◌<◌, ◌≤◌, List, length};
 ghost use Rattle.rules.specs.declared.rule.Rule.{Rule as SomeRule};
-ghost use Rattle.rules.specs.Semantics.{Mem, LiteralSet as Literals, ◌∈◌, Overruling};
+ghost use Rattle.rules.specs.Semantics.{LiteralSet as Literals, ◌∈◌, Overruling};
 ghost use Rattle.steps.specs.Parts.{SetOf, Tabled, Members};
 ghost use Rattle.lanes.specs.Blocks.{Has};
 ghost use Rattle.lanes.specs.Contesting.{Contested, Fair, About};

@@ -1,9 +1,8 @@
-ghost use Rattle.std.specs.Prelude.{ℕ, ◌^◌, ◌<◌, List};
+ghost use Rattle.std.specs.Prelude.{ℕ, List};
 ghost use Rattle.rules.specs.declared.rule.Rule.{Rule as SomeRule};
-ghost use Rattle.rules.specs.Semantics.{Mem, Overruling, Total, Outcome, settled};
-ghost use Rattle.steps.specs.Parts.{SetOf, Tabled};
-ghost use Rattle.lanes.specs.Blocks.{Has};
-ghost use Rattle.lanes.specs.Trying.{Sound, Tries};
+ghost use Rattle.rules.specs.Semantics.{Mem, Overruling, Total, Outcome};
+ghost use Rattle.steps.specs.Parts.{SetOf};
+ghost use Rattle.lanes.specs.Trying.{Tries};
 
 use crate::block::Block;
 use crate::trial::Trial;

@@ -1,4 +1,4 @@
-use Rattle.std.proofs.Common.{◌^◌, ◌<◌, subst, arith}
+use Rattle.std.proofs.Common.{subst, arith}
 use Rattle.rules.proofs.Bitwise.{not_in_zero}
 use Rattle.rules.specs.Semantics.{Mem}
 use Rattle.lanes.proofs.Lowest.{dropped_less}

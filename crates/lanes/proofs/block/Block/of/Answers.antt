@@ -1,30 +1,34 @@
-use Rattle.std.proofs.Common.{◌≡◌, ℕ, ◌+◌, sym, refl, ◌∙◌, subst, arith}
+use Rattle.std.proofs.Common.{◌≡◌, ℕ, ◌+◌, ◌∙◌, subst, arith}
 use lib.Bits.{bit_or}
 use Rattle.std.proofs.lemmas.Bool.Decides.{not_from_Decides}
-use Rattle.lanes.specs.Subsets.{rank, part}
+<<<<<<< HEAD
+use Rattle.steps.specs.Subsets.{rank, part}
+=======
+use Rattle.lanes.specs.Subsets.{part}
+>>>>>>> 2c596022afa25ba0ffac8aa3710b76fd66bab3ba
 use Rattle.lanes.proofs.Halves.{Both, both_start, both_more, both_has}
-use Rattle.lanes.proofs.Subsets.{rank_le, rank_with, rank_without, rank_none}
+use Rattle.steps.proofs.Subsets.{rank_le, rank_with, rank_without, rank_none}
 use Rattle.lanes.proofs.block.Block.of.Goals as goal
-use Rattle.lanes.proofs.block.Block.of.Goals.{then-has-matter, else-has-matter}
+use Rattle.lanes.proofs.block.Block.of.Goals.{then-has_matter, else-has_matter}
 
 pub loop-a-init : goal.loop-a-init
 loop-a-init c = (both_start _ _ c.empty-block.ensures, rank_none c.args.undecided)
 
-pub side-of-requires : goal.side-of-requires
-side-of-requires c = ((let l = c.loop-a-test.true in let m = c.requires.0 in omega arith), (c.loop-a.invariant.1, (c.requires.1.0, c.requires.1.1.0 c.loop-a.a)))
+pub side_of-requires : goal.side_of-requires
+side_of-requires c = ((let l = c.loop-a-test.true in let m = c.requires.0 in omega arith), (c.loop-a.invariant.1, (c.requires.1.0, c.requires.1.1.0 c.loop-a.a)))
 
 pub put-requires : goal.put-requires
 put-requires c = let l = c.loop-a-test.true in let m = c.requires.0 in omega arith
 
-pub overflow-add-rank : goal.overflow-add-rank
-overflow-add-rank c = let r = rank_le c.args.undecided c.loop-a.a in let e = c.loop-a.invariant.1 in let l = c.loop-a-test.true in let m = c.requires.0 in omega arith
+pub overflow_add-rank : goal.overflow_add-rank
+overflow_add-rank c = let r = rank_le c.args.undecided c.loop-a.a in let e = c.loop-a.invariant.1 in let l = c.loop-a-test.true in let m = c.requires.0 in omega arith
 
 pub loop-a-preserved : goal.loop-a-preserved
 loop-a-preserved c = (
-  both_more _ c.loop-a.a c.side-of.result c.loop-a.block _ (let l = c.loop-a-test.true in let m = c.requires.0 in omega arith) c.side-of.ensures c.put.ensures c.loop-a.invariant.0,
-  elim c.if-has-matter.branch [
-    | then-has-matter w ↦ w.rank-is ∙ rank_with c.args.undecided c.loop-a.a c.loop-a.rank c.loop-a.invariant.1 (c.has-matter.ensures.0 w.if-has-matter.true)
-    | else-has-matter w ↦ w.rank-is ∙ rank_without c.args.undecided c.loop-a.a c.loop-a.rank c.loop-a.invariant.1 (not_from_Decides c.has-matter.result c.has-matter.ensures w.if-has-matter.false)
+  both_more _ c.loop-a.a c.side_of.result c.loop-a.block _ (let l = c.loop-a-test.true in let m = c.requires.0 in omega arith) c.side_of.ensures c.put.ensures c.loop-a.invariant.0,
+  elim c.if-has_matter.branch [
+    | then-has_matter w ↦ w.rank-is ∙ rank_with c.args.undecided c.loop-a.a c.loop-a.rank c.loop-a.invariant.1 (c.has_matter.ensures.0 w.if-has_matter.true)
+    | else-has_matter w ↦ w.rank-is ∙ rank_without c.args.undecided c.loop-a.a c.loop-a.rank c.loop-a.invariant.1 (not_from_Decides c.has_matter.result c.has_matter.ensures w.if-has_matter.false)
   ],
 )
 

@@ -1,6 +1,6 @@
 use Rattle.std.proofs.Common.{◌≡◌, ◌+◌}
 use lib.Bits.{bit_or}
-use Rattle.lanes.specs.Subsets.{rank, part}
+use Rattle.steps.specs.Subsets.{rank, part}
 use Rattle.lanes.proofs.Halves.{Both}
 use Rattle.lanes.proofs.block.Block.of.Given as goal
 

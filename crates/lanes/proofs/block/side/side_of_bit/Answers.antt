@@ -1,4 +1,4 @@
-use Rattle.std.proofs.Common.{◌≡◌, sym, ◌∙◌, arith}
+use Rattle.std.proofs.Common.{sym, ◌∙◌}
 use Rattle.lanes.proofs.Sides.{lanes_with_bit, high_bit}
 use Rattle.lanes.proofs.block.side.side_of_bit.Goals as goal
 

@@ -1,5 +1,5 @@
 use Rattle.std.proofs.Common.{refl, arith}
-use Rattle.lanes.proofs.Gathering.{added_none, added_some}
+use Rattle.lanes.proofs.Gathering.{added_some}
 use Rattle.lanes.proofs.claimants.Claimants.add.Goals as goal
 
 pub returns-then-lanes-ne0 : goal.returns-then-lanes-ne0

@@ -3,8 +3,8 @@ use Rattle.rules.proofs.Bitwise.{mem_and_left}
 use Rattle.lanes.proofs.Gathering.{among_set}
 use Rattle.lanes.proofs.claimants.Claimants.among.Goals as goal
 
-pub any-of-requires : goal.any-of-requires
-any-of-requires c = λ j h. let l = c.requires.low j (mem_and_left j c.args.self.now.sheets c.args.set h) in let e = c.args.self.now.whole in omega arith
+pub any_of-requires : goal.any_of-requires
+any_of-requires c = λ j h. let l = c.requires.low j (mem_and_left j c.args.self.now.sheets c.args.set h) in let e = c.args.self.now.whole in omega arith
 
 pub returns : goal.returns
-returns c = among_set c.args.self.now c.args.set c.any-of.result c.requires c.any-of.ensures
+returns c = among_set c.args.self.now c.args.set c.any_of.result c.requires c.any_of.ensures

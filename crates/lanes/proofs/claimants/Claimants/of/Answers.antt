@@ -1,4 +1,6 @@
-use Rattle.std.proofs.Common.{◌≡◌, ℕ, ◌+◌, sym, subst, arith}
+use Rattle.std.proofs.Common.{ℕ, ◌+◌, sym, subst, arith, rules}
+use denote.Enum.Bare.{same_true, same_false}
+use Rattle.rules.specs.contracts.rule.Sign.{the_type}
 use Rattle.rules.specs.Semantics.{LiteralSet}
 use Rattle.rules.proofs.Computed.{placed}
 use Rattle.lanes.specs.declared.claimants.Claimants.{Claimants}
@@ -19,9 +21,9 @@ loop-r-preserved c =
     let Kept : Claimants → Type 0 = λ d. ((X : ℕ → LiteralSet) → Has X c.args.block.now → Gathered c.args.rules.now (c.loop-r.r-index + 1) X c.args.sign d) × Noted d in
     elim c.if-eq.branch [
       | then-eq w ↦ subst Kept (sym w.claimants-is)
-          ((λ X h. gathered_more _ _ X _ _ _ _ w.if-eq.ensures (w.body_true.ensures X h) w.add.ensures (c.loop-r.invariant.0 X h)), w.add.ensures.noted c.loop-r.invariant.1)
+          ((λ X h. gathered_more _ _ X _ _ _ _ (same_true the_type (search rules) _ _ (sym w.if-eq.ensures)) (w.body_true.ensures X h) w.add.ensures (c.loop-r.invariant.0 X h)), w.add.ensures.noted c.loop-r.invariant.1)
       | else-eq w ↦ subst Kept (sym w.claimants-is)
-          ((λ X h. gathered_skip _ _ X _ _ w.if-eq.ensures (c.loop-r.invariant.0 X h)), c.loop-r.invariant.1)
+          ((λ X h. gathered_skip _ _ X _ _ (same_false the_type _ _ (sym w.if-eq.ensures)) (c.loop-r.invariant.0 X h)), c.loop-r.invariant.1)
     ]
 
 pub returns : goal.returns

@@ -1,4 +1,4 @@
-use Rattle.std.proofs.Common.{◌≡◌, ℕ, ◌<◌, get_or, sym, ap, subst, arith}
+use Rattle.std.proofs.Common.{◌<◌, sym, subst, arith}
 use Rattle.rules.specs.Semantics.{Mem}
 use Rattle.rules.proofs.Bitwise.{not_in_zero}
 use Rattle.steps.proofs.SetOfs.{set_same}

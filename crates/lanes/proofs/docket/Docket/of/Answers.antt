@@ -1,4 +1,4 @@
-use Rattle.std.proofs.Common.{◌≡◌, ℕ, sym, ap, ◌∙◌, subst, arith}
+use Rattle.std.proofs.Common.{◌≡◌, ℕ, subst, arith}
 use Rattle.lanes.specs.Docketing.{Docketed}
 use Rattle.lanes.proofs.Docketing.{docketed_start, docketed_more, room_for}
 use Rattle.lanes.proofs.docket.Docket.of.Goals as goal

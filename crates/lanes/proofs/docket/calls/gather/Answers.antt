@@ -1,4 +1,4 @@
-use Rattle.std.proofs.Common.{◌≡◌, List, ◌++◌, filter, sym, ap, ◌∙◌, arith}
+use Rattle.std.proofs.Common.{List, ◌++◌, filter, sym, ap, ◌∙◌}
 use Rattle.std.proofs.lemmas.List.{append-nil, take_all}
 use Rattle.rules.specs.declared.rule.Rule.{Rule}
 use Rattle.rules.specs.Held.{held}
@@ -6,21 +6,21 @@ use Rattle.rules.proofs.Computed.{placed}
 use Rattle.lanes.specs.Docketing.{about}
 use Rattle.lanes.proofs.Docketing.{kept_push, kept_skip}
 use Rattle.lanes.proofs.docket.calls.gather.Goals as goal
-use Rattle.lanes.proofs.docket.calls.gather.Goals.{then-is-about, else-is-about}
+use Rattle.lanes.proofs.docket.calls.gather.Goals.{then-is_about, else-is_about}
 
 pub loop-r-init : goal.loop-r-init
 loop-r-init c = sym (append-nil (held c.args.table.now))
 
-pub is-about-requires : goal.is-about-requires
-is-about-requires c = c.requires.1 _ (placed _ _ _ c.loop-r-test.true)
+pub is_about-requires : goal.is_about-requires
+is_about-requires c = c.requires.1 _ (placed _ _ _ c.loop-r-test.true)
 
 pub loop-r-preserved : goal.loop-r-preserved
 loop-r-preserved c =
     let p = about c.args.matter in
     let P = c.args.rules.now in
-    elim c.if-is-about.branch [
-      | then-is-about w ↦ ap held w.table-is ∙ kept_push p P (held c.args.table.now) _ _ c.loop-r.r-index w.push.result c.loop-r-test.true c.requires.0 w.if-is-about.ensures c.loop-r.invariant w.push.ensures.value w.push.ensures.after
-      | else-is-about w ↦ ap held w.table-is ∙ kept_skip p P (held c.args.table.now) _ c.loop-r.r-index c.loop-r-test.true w.if-is-about.ensures c.loop-r.invariant
+    elim c.if-is_about.branch [
+      | then-is_about w ↦ ap held w.table-is ∙ kept_push p P (held c.args.table.now) _ _ c.loop-r.r-index w.push.result c.loop-r-test.true c.requires.0 w.if-is_about.ensures c.loop-r.invariant w.push.ensures.value w.push.ensures.after
+      | else-is_about w ↦ ap held w.table-is ∙ kept_skip p P (held c.args.table.now) _ c.loop-r.r-index c.loop-r-test.true w.if-is_about.ensures c.loop-r.invariant
     ]
 
 pub returns : goal.returns

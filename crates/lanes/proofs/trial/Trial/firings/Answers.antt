@@ -1,4 +1,4 @@
-use Rattle.std.proofs.Common.{◌≡◌, ℕ, sym, ap, subst, arith}
+use Rattle.std.proofs.Common.{◌≡◌, ℕ, subst, arith}
 use Rattle.lanes.proofs.Founding.{holding_none}
 use Rattle.lanes.proofs.Trying.{group_about, group_low, group_room, most_matters}
 use Rattle.lanes.specs.Founding.{HoldingTo}

@@ -1,9 +1,5 @@
-use Rattle.std.proofs.Common.{ℕ, ◌+◌, List, arith}
+use Rattle.std.proofs.Common.{◌+◌, arith}
 use lib.Bits.{bit_and}
-use Rattle.rules.specs.declared.rule.Rule.{Rule}
-use Rattle.rules.specs.Semantics.{LiteralSet, Overruling}
-use Rattle.steps.specs.Parts.{SetOf, Tabled}
-use Rattle.lanes.specs.Blocks.{Has}
 use Rattle.lanes.proofs.Trying.{sweep_start, sweep_more, sweep_none, sweep_end}
 use Rattle.lanes.proofs.trial.Trial.sweep.Goals as goal
 
