@@ -1,21 +1,20 @@
 -- The sets that a finder tries: the outcomes are among them.
-use Rattle.std.proofs.Common.{◌≡◌, ℕ, ◌+◌, ◌-◌, ◌*◌, ◌^◌, ◌<◌, ◌≤◌, cond, eqb, ◌⊎◌, List, length, sym, refl, ap, ◌∙◌, subst, inl, inr, ⊎_elim, arith, pow_mono}
+use Rattle.std.proofs.Common.{◌≡◌, ℕ, ◌-◌, ◌^◌, ◌<◌, ◌≤◌, cond, eqb, ◌⊎◌, List, length, sym, refl, ap, ◌∙◌, subst, inl, inr, ⊎_elim, arith, pow_mono}
 use lib.Bits.{bit_and, bit_or, or_lt, or_disjoint}
 use lib.Count.{ones, ones-le}
-use Rattle.std.proofs.lemmas.Nat.{pow_below}
-use Rattle.std.proofs.lemmas.Bool.{cases_lt, cond_both, eqb-true, eqb-false}
+use Rattle.std.proofs.lemmas.Bool.{cond_both, eqb-false}
 use Rattle.rules.specs.declared.rule.Rule.{Rule}
-use Rattle.rules.specs.declared.rule.Sign.TheVariants.{Yes, No}
+use Rattle.rules.specs.declared.rule.Sign.TheVariants.{Yes}
 use Rattle.rules.specs.Held.{held}
 use Rattle.rules.specs.Semantics.{Mem, LiteralSet, Overruling, Total, Formed, Outcome, WellFounded}
 use Rattle.rules.proofs.Bitwise.{mem_cases, mem_and, mem_and_left, mem_and_right, mem_or_left, mem_or_right, mem_or_cases, mem_below, rest_mem, rest_not, same_members, below_from_members, not_in_zero}
 use Rattle.rules.proofs.Theory.{outcome_between, step_bounded}
 use Rattle.evaluator.specs.declared.finder.Finder.{Finder}
-use Rattle.evaluator.specs.Finding.{candidate, Works, Waits, From}
+use Rattle.evaluator.specs.Finding.{From}
 use Rattle.steps.specs.Parts.{SetOf, Ready, Tabled}
-use Rattle.lanes.specs.Subsets.{part, Undecided}
+use Rattle.steps.specs.Subsets.{part, Undecided}
 use Rattle.steps.proofs.SetOfs.{empty_zero}
-use Rattle.lanes.proofs.Subsets.{part_within, part_lt, part_rising, part_onto}
+use Rattle.steps.proofs.Subsets.{part_within, part_rising, part_onto}
 
 -- all matters but those of two sets
 pub undecided_set : {n x : ℕ} {X : LiteralSet} → n ≤ 16 → x ≡ 2 ^ n - 1 → X.0 < 2 ^ 16 → X.1 < 2 ^ 16 → SetOf (bit_and x (65535 - bit_or X.0 X.1)) (Undecided n X)

@@ -1,5 +1,5 @@
 -- The laws hold.
-use Rattle.std.proofs.Common.{◌≡◌, ℕ, List, take, Ok, Err, Result, sym, subst}
+use Rattle.std.proofs.Common.{ℕ, List, take, Ok, Err, Result, sym, subst}
 use Rattle.rules.specs.declared.rule.Rule.{Rule}
 use Rattle.rules.specs.Semantics.{Overruling, Total, Formed, Lists}
 use Rattle.rules.proofs.Theory.{outcome_between}

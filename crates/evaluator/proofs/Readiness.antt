@@ -1,5 +1,5 @@
 -- Every rack is ready for the search.
-use Rattle.std.proofs.Common.{◌≡◌, ℕ, ◌<◌, ◌≤◌, List, sym, ◌∙◌, subst, arith}
+use Rattle.std.proofs.Common.{◌≡◌, ℕ, ◌<◌, List, sym, ◌∙◌, subst, arith}
 use Rattle.rules.specs.declared.rule.Rule.{Rule}
 use Rattle.rules.proofs.Computed.{each_place}
 use Rattle.racks.specs.Meaning.{Meaning, Kept}

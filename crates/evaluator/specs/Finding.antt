@@ -5,7 +5,7 @@ use Rattle.rules.specs.Held.{held}
 use Rattle.rules.specs.Semantics.{Overruling, Outcome}
 use Rattle.evaluator.specs.declared.finder.Finder.{Finder}
 use Rattle.steps.specs.Parts.{Ready, Tabled}
-use Rattle.lanes.specs.Subsets.{part}
+use Rattle.steps.specs.Subsets.{part}
 
 -- the set that is tried with the part number t
 abbrev pub candidate : Finder → ℕ → ℕ

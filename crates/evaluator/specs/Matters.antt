@@ -1,5 +1,5 @@
 -- What the evaluator says of one matter.
-use Rattle.std.specs.Prelude.{◌≡◌, ℕ, Bool, true, false, List, [], ◌∷◌, Result, nat_le}
+use Rattle.std.specs.Prelude.{ℕ, Bool, true, false, List, [], ◌∷◌, Result, nat_le}
 use Rattle.rules.specs.declared.rule.Rule.{Rule}
 use Rattle.rules.specs.Refusals.{Table, Judged}
 use Rattle.rules.specs.Semantics.{Mem, LiteralSet, Overruling, Outcome, WellFounded}

@@ -1,7 +1,7 @@
 ghost use Rattle.std.specs.Prelude.{◌≡◌, ◌-◌, ◌^◌, ◌<◌, ◌≤◌, if◌then◌else◌, Decides, bit_and, count_ones, nat_eq};
 ghost use Rattle.rules.specs.Semantics.{Mem};
 ghost use Rattle.steps.specs.Parts.{SetOf};
-ghost use Rattle.lanes.specs.Subsets.{part, Undecided};
+ghost use Rattle.steps.specs.Subsets.{part, Undecided};
 
 use rules::rule::LiteralSet;
 use steps::bits::with_matter;

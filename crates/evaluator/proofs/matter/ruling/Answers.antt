@@ -1,4 +1,4 @@
-use Rattle.std.proofs.Common.{◌≡◌, ℕ, not, sym, ap, subst, arith}
+use Rattle.std.proofs.Common.{◌≡◌, not, sym, ap, subst, arith}
 use Rattle.std.proofs.lemmas.Bool.{lt-leb}
 use Rattle.std.proofs.lemmas.Bool.Decides.{Decides-not}
 use Rattle.rules.specs.declared.rule.Shape.{Shape}
@@ -16,8 +16,8 @@ next-requires g c = c.loop-m.invariant.1.works
 pub loop-m-preserved : goal.loop-m-preserved
 loop-m-preserved g c =
     let w = c.in-Some.ensures.hands _ _ _ c.loop-m.invariant.0 c.loop-m.invariant.1 in
-    let has = c.has-matter-has.result in
-    let d = c.has-matter-has.ensures in
+    let has = c.has_matter-has.result in
+    let d = c.has_matter-has.ensures in
     let a = c.args.matter in (
       _,
       w.further,
@@ -31,5 +31,5 @@ returns g c =
     let e : c.shape.result.matters ≡ m.matters = ap (λ (s : Shape). s.matters) c.shape.ensures in (
       rw (lt-leb m.matters c.args.matter (let l = c.if-matter-shape.false in omega arith)),
       subst (RulingOf m.rules (g.O.Order.over c.args.order.now) m.matters c.args.matter) (sym c.summed.ensures)
-          (ruled c.args.matter c.loop-m.with c.loop-m.without (c.in-default.ensures.hands _ _ _ c.loop-m.invariant.0 c.loop-m.invariant.1) c.loop-m.invariant.2 c.loop-m.invariant.3),
+          (ruled c.args.matter c.loop-m.with c.loop-m.without (c.in_default.ensures.hands _ _ _ c.loop-m.invariant.0 c.loop-m.invariant.1) c.loop-m.invariant.2 c.loop-m.invariant.3),
     )

@@ -1,4 +1,4 @@
-use Rattle.std.proofs.Common.{◌≡◌, take, refl, subst, ⊎_elim, arith, length-set}
+use Rattle.std.proofs.Common.{◌≡◌, take, refl, subst, arith, length-set}
 use Rattle.std.proofs.lemmas.List.{take_all}
 use Rattle.rules.proofs.Listing.{ListsBelow, found_start, found_more, lists_over}
 use Rattle.evaluator.proofs.Findings.{found_far, found_end}
@@ -30,4 +30,4 @@ returns-then-count-list g c =
 pub returns : goal.returns
 returns g c =
     let f = c.loop-m.invariant.2 in
-    record { enough = f.room; front = found_end (c.in-default.ensures.hands _ _ _ c.loop-m.invariant.0 c.loop-m.invariant.1) f.found; rest = f.rest }
+    record { enough = f.room; front = found_end (c.in_default.ensures.hands _ _ _ c.loop-m.invariant.0 c.loop-m.invariant.1) f.found; rest = f.rest }

@@ -12,5 +12,5 @@ returns g c =
       second = c.outcomes-2.ensures;
       first_model = keep_to_model total (rack_ready m (g.met.R.Rack.kept c.args.left.now)).formed;
       second_model = keep_to_model total (rack_ready m' (g.met.S.Rack.kept c.args.right.now)).formed;
-      alike = alike_same m m' (g.O.Order.over c.args.order.now) c.args.left-list.now c.outcomes.new.list c.args.right-list.now c.outcomes-2.new.list c.outcomes.result c.outcomes-2.result total c.outcomes.ensures c.outcomes-2.ensures;
+      alike = alike_same m m' (g.O.Order.over c.args.order.now) c.args.left_list.now c.outcomes.new.list c.args.right_list.now c.outcomes-2.new.list c.outcomes.result c.outcomes-2.result total c.outcomes.ensures c.outcomes-2.ensures;
     }

@@ -1,7 +1,7 @@
 use Rattle.std.proofs.Common.{◌≡◌}
 use Rattle.rules.specs.Semantics.{Mem}
 use Rattle.steps.specs.Parts.{SetOf}
-use Rattle.lanes.specs.Subsets.{part, rank}
+use Rattle.steps.specs.Subsets.{part, rank}
 use Rattle.steps.proofs.SetOfs.{First}
 use Rattle.evaluator.proofs.finder.bounds.numbered.Given as goal
 
