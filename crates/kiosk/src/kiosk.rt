@@ -2,13 +2,12 @@ ghost use Rattle.std.specs.Prelude.{◌≤◌, vec_capacity};
 ghost use Rattle.kiosk.specs.Slip.{Known, Apart};
 
 use crate::slip::Slip;
-use laying::open_rack::OpenRack;
 
 pub mod calls;
 pub mod reads;
 
 // A kiosk on an open rack. While a session is open, `matters` is the rack's number of matters and the slip is its top sheet.
-pub struct Kiosk<R: OpenRack> {
+pub struct Kiosk<R> {
     rack: R,
     matters: u8,
     session: bool,

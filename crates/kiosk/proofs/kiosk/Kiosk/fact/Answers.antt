@@ -33,8 +33,8 @@ returns-in-Some-find g c =
     fact_found from k fs c.args.matter c.args.sign kept i sat fine c.in-Some-find.ensures
     (seated (shaped m) s.matters s.session es) es (seated_from m s.matters s.session es p.0 p.1 p.2 (omega (arith, p.3, le))) ee
 
-pub returns-then-below-len-ge-MOST-RULES : goal.returns-then-below-len-ge-MOST-RULES
-returns-then-below-len-ge-MOST-RULES g c =
+pub returns-then-below-len-ge-MOST_RULES : goal.returns-then-below-len-ge-MOST_RULES
+returns-then-below-len-ge-MOST_RULES g c =
     let s = c.args.self.now in
     let fs = vec_items s.slip.facts in
     let m = g.R.Rack.meaning s.rack in
@@ -47,25 +47,30 @@ returns-then-below-len-ge-MOST-RULES g c =
     let kept = g.met.R.Rack.kept s.rack in
     let k = kiosk_seated g.R.Rack.meaning s in
     let r = ap (λ (y : Shape). y.rules) c.shape-below.ensures in
-    fact_full from k fs c.args.matter c.args.sign kept sat fine c.in-default-find.ensures
-    (omega (arith, r, c.len.ensures, s.slip.facts.ok.0, c.if-below-len-ge-MOST-RULES.true))
+    fact_full from k fs c.args.matter c.args.sign kept sat fine c.in_default-find.ensures
+    (omega (arith, r, c.len.ensures, s.slip.facts.ok.0, c.if-below-len-ge-MOST_RULES.true))
 
 pub add-requires : goal.add-requires
 add-requires g c =
     let s = c.args.self.now in
     let fs = vec_items s.slip.facts in
     let lt = sound_fact s.matters c.args.matter c.args.sign c.in-Some.ensures.0 in
-    let r = room_for s.matters fs (record { matter = c.args.matter; sign = c.in-Some.rule.sign }) s.known s.apart lt c.in-default-find.ensures in
+    let r = room_for s.matters fs (record { matter = c.args.matter; sign = c.in-Some.rule.sign }) s.known s.apart lt c.in_default-find.ensures in
     omega (arith, r, s.slip.facts.ok.0, s.few, s.reserved)
 
-pub invariant-of-self-2 : goal.invariant-of-self-2
-invariant-of-self-2 g c =
+pub invariant_of-self-2 : goal.invariant_of-self-2
+invariant_of-self-2 g c =
     let s = c.args.self.now in
     let fs = vec_items s.slip.facts in
     let y : Fact = record { matter = c.args.matter; sign = c.in-Some.rule.sign } in
     let e = c.add.ensures.0 in
     let lt = sound_fact s.matters c.args.matter c.args.sign c.in-Some.ensures.0 in
-    (s.few, (omega (arith, c.add.ensures.1.1, s.reserved), (subst (λ (ys : List Fact). Known s.matters ys) (sym e) (known_push s.matters fs y s.known lt), (subst (λ (ys : List Fact). Apart ys) (sym e) (apart_push fs y s.apart c.in-default-find.ensures), tt))))
+    record {
+      few = s.few;
+      reserved = omega (arith, c.add.ensures.1.1, s.reserved);
+      known = subst (λ (ys : List Fact). Known s.matters ys) (sym e) (known_push s.matters fs y s.known lt);
+      apart = subst (λ (ys : List Fact). Apart ys) (sym e) (apart_push fs y s.apart c.in_default-find.ensures);
+    }
 
 pub returns : goal.returns
 returns g c =
@@ -85,6 +90,6 @@ returns g c =
     let stated : Sign → Fact = λ y. record { matter = c.args.matter; sign = y } in
     let ee : es ≡ fs ++ (stated (signed c.args.sign) ∷ []) = c.add.ensures.0 ∙ ap (λ (y : Rule). fs ++ (stated y.sign ∷ [])) h.1 in
     let le = ap length ee ∙ length_push fs (stated (signed c.args.sign)) in
-    let lt : length m.rules + length fs < 256 = omega (arith, r, c.len.ensures, s.slip.facts.ok.0, c.if-below-len-ge-MOST-RULES.false) in
-    fact_added from k fs c.args.matter c.args.sign kept sat fine c.in-default-find.ensures lt
+    let lt : length m.rules + length fs < 256 = omega (arith, r, c.len.ensures, s.slip.facts.ok.0, c.if-below-len-ge-MOST_RULES.false) in
+    fact_added from k fs c.args.matter c.args.sign kept sat fine c.in_default-find.ensures lt
     (seated (shaped m) s.matters s.session es) es (seated_from m s.matters s.session es p.0 p.1 p.2 (omega (arith, lt, le))) ee

@@ -21,7 +21,7 @@ returns g c =
           ∙ ap (λ (x : Shape). topped_shape (seated x s.matters s.session fs) x (length fs)) e
           ∙ shaped_topped k m fs;
       rules = elim c.if-seated.branch [
-        | then-seated w ↦ ap held w.table-is ∙ read_topped k m fs (held c.survey.result.1) (held w.append-to.new.table) c.survey.result.0.sheets (seated_is true m s.matters s.session fs e c.seated.ensures w.if-seated.true) r (ap (λ (x : Shape). x.sheets) e) w.append-to.ensures
+        | then-seated w ↦ ap held w.table-is ∙ read_topped k m fs (held c.survey.result.1) (held w.append_to.new.table) c.survey.result.0.sheets (seated_is true m s.matters s.session fs e c.seated.ensures w.if-seated.true) r (ap (λ (x : Shape). x.sheets) e) w.append_to.ensures
         | else-seated w ↦ ap held w.table-is ∙ read_untopped k m fs (held c.survey.result.1) (seated_is false m s.matters s.session fs e c.seated.ensures w.if-seated.false) r
       ];
     }
