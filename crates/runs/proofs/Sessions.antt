@@ -1,6 +1,6 @@
 -- Which calls keep a session as it is, and one step of a string of calls.
 use Rattle.std.proofs.Common.{◌≡◌, ℕ, ◌+◌, ◌-◌, ◌<◌, ◌≤◌, true, false, cond, List, [], ◌∷◌, ◌++◌, length, get_or, drop, replicate, Some, None, Err, vec_items, vec_len, Option, Result, Vec, sym, refl, ap, ◌∙◌, subst, arith}
-use Rattle.std.specs.List.{AllByRecursion as All}
+use Rattle.std.specs.List.{AllByRecursion}
 use Rattle.std.proofs.lemmas.List.{at_drop_more, append_assoc, append-nil, drop_all}
 use Rattle.rules.specs.declared.record.Record.{Record}
 use Rattle.rules.specs.Semantics.{Overruling}
@@ -51,7 +51,7 @@ purse_kept v b k c s h p = (p.0 ∙ ap (λ (n : ℕ). 1 + n) (sym (ap (λ (q : B
 pub stock_kept : {Y Z : Type 0} (places k n : ℕ) (v : Vec (Vec ℕ Y) Z) → Stocked places k v → Stocked places (vec_len v - n) v
 stock_kept places k n v s = (omega arith, s.1)
 
-all_last : {X : Type 0} (Q : X → Type 0) (xs : List X) (x : X) → All Q (xs ++ (x ∷ [])) → Q x × All Q xs
+all_last : {X : Type 0} (Q : X → Type 0) (xs : List X) (x : X) → AllByRecursion Q (xs ++ (x ∷ [])) → Q x × AllByRecursion Q xs
 all_last Q [] x a = (a.0, tt)
 all_last Q (y ∷ ys) x a = let r = all_last Q ys x a.1 in (r.0, (a.0, r.1))
 
@@ -59,7 +59,7 @@ all_last Q (y ∷ ys) x a = let r = all_last Q ys x a.1 in (r.0, (a.0, r.1))
 pub stock_taken : {Y Z : Type 0} (places n : ℕ) (v w : Vec (Vec ℕ Y) Z) (x : Vec ℕ Y) → vec_items v ≡ vec_items w ++ (x ∷ []) → vec_len w + 1 ≡ vec_len v → n ≡ 1 → Stocked places n v → (vec_items x ≡ replicate places 0) × Stocked places (vec_len v - n) w
 stock_taken {Y} {Z} places n v w x e l o s =
     let blank : Vec ℕ Y → Type 0 = λ y. vec_items y ≡ replicate places 0 in
-    let a = all_last blank (vec_items w) x (subst (λ (ys : List (Vec ℕ Y)). All blank ys) e s.1) in
+    let a = all_last blank (vec_items w) x (subst (λ (ys : List (Vec ℕ Y)). AllByRecursion blank ys) e s.1) in
     (a.0, (omega arith, a.1))
 
 -- A string of calls, under way

@@ -8,7 +8,7 @@ pub loop-call-preserved : goal.loop-call-preserved
 loop-call-preserved c =
     let i = c.loop-call.invariant in
     let more = at_drop_more asked c.args.calls.now c.loop-call.call-index Begin c.loop-call-test.true in
-    (omega (arith, i.0, more, c.lists-for-count.ensures.0), omega (arith, i.1, c.lists-for-count.ensures.1))
+    (omega (arith, i.0, more, c.lists_for-count.ensures.0), omega (arith, i.1, c.lists_for-count.ensures.1))
 
 pub returns : goal.returns
 returns c =

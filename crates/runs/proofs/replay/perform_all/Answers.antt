@@ -11,8 +11,8 @@ use Rattle.runs.proofs.replay.perform_all.Goals as goal
 
 pub loop-call-init : goal.loop-call-init
 loop-call-init g c =
-    let s = c.in-ok-run.ensures in
-    let run = c.in-ok-run.run' in (
+    let s = c.in_ok-run.ensures in
+    let run = c.in_ok-run.run' in (
       omega (arith, ap length s.1, run.answers.ok.0),
       s.2,
       s.3,
@@ -38,11 +38,11 @@ loop-call-preserved g c =
     let at = get_or c.args.calls.now c.loop-call.call-index Begin in
     let answer = subst (λ (n : ℕ). Answers over n (book_of g.R.Rack.meaning g.R.OpenRack.floor g.R.OpenRack.places run.kiosk) at c.perform-answer.result) i.4 c.perform-answer.ensures.answer in
     let stock = subst (λ (n : ℕ). Stocked n (vec_len run.lists - tally (asks at)) c.perform-answer.new.self.lists) i.4 c.perform-answer.ensures.stock in
-    let items = c.push-reserved.ensures.items ∙ ap (λ (xs : List Answer). xs ++ (c.perform-answer.result ∷ [])) (ap vec_items kept) in (
-      omega (arith, ap vec_len kept, c.push-reserved.ensures.len, c.loop-call.invariant.0),
-      omega (arith, ap vec_capacity kept, c.push-reserved.ensures.capacity, c.loop-call.invariant.1),
+    let items = c.push_reserved.ensures.items ∙ ap (λ (xs : List Answer). xs ++ (c.perform-answer.result ∷ [])) (ap vec_items kept) in (
+      omega (arith, ap vec_len kept, c.push_reserved.ensures.len, c.loop-call.invariant.0),
+      omega (arith, ap vec_capacity kept, c.push_reserved.ensures.capacity, c.loop-call.invariant.1),
       c.perform-answer.ensures.purse,
-      going_more (g.O.Order.over c.args.order.now) c.args.places (book_of g.R.Rack.meaning g.R.OpenRack.floor g.R.OpenRack.places c.in-ok-run.run'.kiosk) (book_of g.R.Rack.meaning g.R.OpenRack.floor g.R.OpenRack.places run.kiosk) (book_of g.R.Rack.meaning g.R.OpenRack.floor g.R.OpenRack.places c.perform-answer.new.self.kiosk) c.args.calls.now c.loop-call.call-index Begin c.perform-answer.result (vec_items run.answers) _ c.loop-call.invariant.3 c.loop-call-test.true answer c.perform-answer.ensures.book items,
+      going_more (g.O.Order.over c.args.order.now) c.args.places (book_of g.R.Rack.meaning g.R.OpenRack.floor g.R.OpenRack.places c.in_ok-run.run'.kiosk) (book_of g.R.Rack.meaning g.R.OpenRack.floor g.R.OpenRack.places run.kiosk) (book_of g.R.Rack.meaning g.R.OpenRack.floor g.R.OpenRack.places c.perform-answer.new.self.kiosk) c.args.calls.now c.loop-call.call-index Begin c.perform-answer.result (vec_items run.answers) _ c.loop-call.invariant.3 c.loop-call-test.true answer c.perform-answer.ensures.book items,
       c.perform-answer.ensures.kept.1 ∙ i.4,
       (omega (arith, stock.0, i.5.0, at_drop_more asked c.args.calls.now c.loop-call.call-index Begin c.loop-call-test.true), stock.1),
     )
@@ -52,8 +52,8 @@ returns g c =
     let run = c.loop-call.run in
     let over = g.O.Order.over c.args.order.now in
     let calls = c.args.calls.now in
-    let st = c.in-ok-run.ensures.0 in
-    let e = going_end over c.args.places (book_of g.R.Rack.meaning g.R.OpenRack.floor g.R.OpenRack.places c.in-ok-run.run'.kiosk) (book_of g.R.Rack.meaning g.R.OpenRack.floor g.R.OpenRack.places run.kiosk) calls c.loop-call.call-index (vec_items run.answers) c.loop-call.invariant.3 c.loop-call-test.false in
+    let st = c.in_ok-run.ensures.0 in
+    let e = going_end over c.args.places (book_of g.R.Rack.meaning g.R.OpenRack.floor g.R.OpenRack.places c.in_ok-run.run'.kiosk) (book_of g.R.Rack.meaning g.R.OpenRack.floor g.R.OpenRack.places run.kiosk) calls c.loop-call.call-index (vec_items run.answers) c.loop-call.invariant.3 c.loop-call-test.false in
     let stands = e.0 ∙ ap (λ (b : Book). after b calls) st in
     record {
       answered = subst (λ (b : Book). Runs over c.args.places b calls (vec_items run.answers) (after b calls)) st e.1;

@@ -7,8 +7,8 @@ use Rattle.runs.proofs.replay.replay.Goals as goal
 
 pub returns : goal.returns
 returns g c =
-    let made = c.in-ok-run.ensures in
-    let k = c.in-ok-run.run'.kiosk in
+    let made = c.in_ok-run.ensures in
+    let k = c.in_ok-run.run'.kiosk in
     let m = g.R.Rack.meaning in
     let kept = g.met.R.Rack.kept k.rack in
     let over = g.O.Order.over c.args.order.now in (

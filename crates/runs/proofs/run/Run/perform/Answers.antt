@@ -80,17 +80,17 @@ returns-in-End g c =
       kept = (refl, refl);
     }
 
-pub take-last-requires : goal.take-last-requires
-take-last-requires g c = omega (arith, ap (λ (x : Call). tally (asks x)) c.in-Outcomes.is, c.requires.1.0)
+pub take_last-requires : goal.take_last-requires
+take_last-requires g c = omega (arith, ap (λ (x : Call). tally (asks x)) c.in-Outcomes.is, c.requires.1.0)
 
 pub returns-in-Outcomes : goal.returns-in-Outcomes
 returns-in-Outcomes g c =
     let b = book_of g.R.Rack.meaning g.R.OpenRack.floor g.R.OpenRack.places c.args.self.now.kiosk in
     let s = c.args.self.now in
     let o = ap (λ (x : Call). tally (asks x)) c.in-Outcomes.is in
-    let t = stock_taken s.places (tally (asks c.args.call)) s.lists c.take-last.new.self c.take-last.result c.take-last.ensures.items c.take-last.ensures.len o c.requires.1 in
+    let t = stock_taken s.places (tally (asks c.args.call)) s.lists c.take_last.new.self c.take_last.result c.take_last.ensures.items c.take_last.ensures.len o c.requires.1 in
     record {
-      answer = listed_answers (g.O.Order.over c.args.order.now) s.places b c.args.call (vec_items c.take-last.result) c.listed.result c.in-Outcomes.is t.0 c.listed.ensures;
+      answer = listed_answers (g.O.Order.over c.args.order.now) s.places b c.args.call (vec_items c.take_last.result) c.listed.result c.in-Outcomes.is t.0 c.listed.ensures;
       book = ap (λ (x : Call). (step b x).book) (sym c.in-Outcomes.is);
       purse = c.requires.0;
       stock = t.1;
