@@ -1,10 +1,9 @@
 -- From a filled rack and a report on it to what kiosk-list says.
-use Rattle.std.proofs.Common.{◌≡◌, ℕ, ◌+◌, ◌*◌, ◌<◌, ◌≤◌, ◌⊎◌, List, ◌++◌, length, take, drop, decimal, sym, refl, ap, ◌∙◌, subst, ⊎_elim, mul-le-mul, arith}
+use Rattle.std.proofs.Common.{◌≡◌, ℕ, ◌+◌, ◌*◌, ◌≤◌, List, ◌++◌, length, take, drop, ap, ◌∙◌, subst, mul-le-mul, arith}
 use Rattle.std.proofs.lemmas.List.{length-take-le}
 use Rattle.racks.specs.declared.file.FileRack.{FileRack}
 use Rattle.racks.specs.Filing.{file_meaning, Filled}
 use Rattle.racks.specs.Meaning.{Meaning}
-use Rattle.racks.specs.Packing.{rack_of}
 use Rattle.orders.specs.Overrules.{by_position}
 use Rattle.evaluator.specs.Answers.{Overfull}
 use Rattle.report.specs.Listings.{refusal, Says, Answers}

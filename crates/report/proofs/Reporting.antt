@@ -1,13 +1,11 @@
 -- From a written text to a report.
-use Rattle.std.proofs.Common.{◌≡◌, ℕ, ◌^◌, ◌≤◌, List, length, take, Some, None, Option, Result, sym, refl, ap, ◌∙◌, subst, inl, inr, arith, pow_mono}
+use Rattle.std.proofs.Common.{◌≡◌, ℕ, ◌^◌, ◌≤◌, List, length, take, Some, None, Option, refl, ap, inr, arith, pow_mono}
 use Rattle.std.specs.Option.{ok_or}
 use Rattle.rules.specs.declared.rule.Rule.{Rule}
-use Rattle.rules.specs.Semantics.{LiteralSet, Overruling, WellFounded}
+use Rattle.rules.specs.Semantics.{Overruling}
 use Rattle.rules.proofs.Listing.{lists_short}
-use Rattle.evaluator.specs.declared.answer.EvaluatorFault.{EvaluatorFault}
 use Rattle.evaluator.specs.declared.answer.EvaluatorFault.TheVariants.{TextTooLong}
 use Rattle.evaluator.specs.Answers.{Filled}
-use Rattle.report.specs.Text.{text}
 use Rattle.report.specs.Writing.{Writes}
 use Rattle.report.specs.Reports.{Composed, Reported}
 

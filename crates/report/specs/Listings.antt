@@ -1,5 +1,5 @@
 -- What kiosk-list says of the bytes that it is given.
-use Rattle.std.specs.Prelude.{◌≡◌, ℕ, ◌<◌, ◌≤◌, List, [], ◌∷◌, ◌++◌, length, drop, codes, decimal}
+use Rattle.std.specs.Prelude.{◌≡◌, ℕ, ◌<◌, ◌≤◌, List, ◌++◌, length, drop, codes, decimal}
 use Rattle.rules.specs.declared.record.Record.{Record}
 use Rattle.rules.specs.Semantics.{LiteralSet, Lists, WellFounded}
 use Rattle.orders.specs.Overrules.{by_position}

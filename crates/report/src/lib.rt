@@ -1,4 +1,6 @@
 // What the kiosk prints: the report on a rack, and the answer to a packed file.
+#![tactic(auto)]
+
 pub mod listing;
 pub mod report;
 mod text;

@@ -2,8 +2,8 @@ use Rattle.std.proofs.Common.{arith}
 use Rattle.report.proofs.Lengths.{length_digit, length_step, decimal_short}
 use Rattle.report.proofs.text.decimal_len.Goals as goal
 
-pub overflow-add-len : goal.overflow-add-len
-overflow-add-len c =
+pub overflow_add-len : goal.overflow_add-len
+overflow_add-len c =
     let short = decimal_short c.args.value (omega arith) in
     omega arith
 

@@ -8,8 +8,8 @@ use Rattle.report.proofs.text.put_outcomes.Goals as goal
 pub loop-outcome-init : goal.loop-outcome-init
 loop-outcome-init c = puts_nothing c.args.out.now c.args.start (omega arith)
 
-pub put-row-at-requires : goal.put-row-at-requires
-put-row-at-requires c =
+pub put_row-at-requires : goal.put_row-at-requires
+put_row-at-requires c =
     let sets = c.args.outcomes.now in
     let i = c.loop-outcome.outcome-index in
     let room = listing_room c.args.matters i (get_or sets i 0) sets c.loop-outcome-test.true in
@@ -20,7 +20,7 @@ loop-outcome-preserved c =
     let sets = c.args.outcomes.now in
     let i = c.loop-outcome.outcome-index in
     rw (take_more sets i 0 c.loop-outcome-test.true, ← flat_map_more (λ M. line (cells (digit M) c.args.matters)) [] (take i sets) (get_or sets i 0))
-    (puts_then c.loop-outcome.invariant c.put-row-at.ensures)
+    (puts_then c.loop-outcome.invariant c.put_row-at.ensures)
 
 pub returns : goal.returns
 returns c = rw (take_all c.loop-outcome.outcome-index c.args.outcomes.now c.loop-outcome-test.false) at c.loop-outcome.invariant

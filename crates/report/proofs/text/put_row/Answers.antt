@@ -10,8 +10,8 @@ pub loop-matter-init : goal.loop-matter-init
 unfolding cells
 loop-matter-init c = puts_nothing c.args.out.now c.args.start (omega (arith, c.requires.room))
 
-pub put-byte-at-requires : goal.put-byte-at-requires
-put-byte-at-requires c =
+pub put_byte-at-requires : goal.put_byte-at-requires
+put_byte-at-requires c =
     let whole = length_row (character c.args.row) c.args.matters in
     let part = length_cells (character c.args.row) c.loop-matter.matter in
     omega arith
@@ -20,10 +20,10 @@ pub loop-matter-preserved : goal.loop-matter-preserved
 unfolding cells
 loop-matter-preserved c =
     let more = map-range_with_len_more (character c.args.row) 0 c.loop-matter.matter c.loop-matter.matter (zero-add _) in
-    rw (more, ← c.mark.ensures) (puts_then c.loop-matter.invariant c.put-byte-at.ensures)
+    rw (more, ← c.mark.ensures) (puts_then c.loop-matter.invariant c.put_byte-at.ensures)
 
-pub put-byte-requires : goal.put-byte-requires
-put-byte-requires c =
+pub put_byte-requires : goal.put_byte-requires
+put_byte-requires c =
     let whole = length_row (character c.args.row) c.args.matters in
     let part = length_cells (character c.args.row) c.loop-matter.matter in
     omega arith
@@ -31,4 +31,4 @@ put-byte-requires c =
 pub returns : goal.returns
 returns c =
     let last : c.loop-matter.matter ≡ c.args.matters = omega arith in
-    rw (← last) (puts_then c.loop-matter.invariant c.put-byte.ensures)
+    rw (← last) (puts_then c.loop-matter.invariant c.put_byte.ensures)
