@@ -1,5 +1,7 @@
 // Executed trials of kiosk-list on small examples, each of which shows one thing about outcomes or the model. A constant is the packed
 // sample of its name: samples/ says what the matters are, and the comment has the sheets, the oldest first.
+#![tactic(auto)]
+
 #[cfg(test)]
 mod tests {
     use report::listing::{OUTPUT, list_file};

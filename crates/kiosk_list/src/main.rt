@@ -1,4 +1,6 @@
 // Reads a packed rule file on standard input and prints every outcome that its sheets allow, or why the file is refused.
+#![tactic(auto)]
+
 use report::listing::{INPUT, OUTPUT, list_file};
 use std::io;
 use std::io::{Read, Write};

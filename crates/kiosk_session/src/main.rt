@@ -1,4 +1,6 @@
 // Plays a counter's day: reads a script on standard input, a call a line, and prints what each did.
+#![tactic(auto)]
+
 use script::day::play_script;
 use std::io::{Read, Write};
 

@@ -1,4 +1,6 @@
 // Executed trials of kiosk-list: what it says of files at and past each limit.
+#![tactic(auto)]
+
 #[cfg(test)]
 mod tests {
     use report::listing::{OUTPUT, list_file};

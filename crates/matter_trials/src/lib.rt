@@ -1,4 +1,6 @@
 // Executed trials of readings, rulings and the listing of two racks.
+#![tactic(auto)]
+
 #[cfg(test)]
 mod tests {
     use evaluator::answer::{EvaluatorFault, Reading, Ruling};

@@ -1,6 +1,8 @@
 // What it costs to read a pile of layers, by its depth: pile_cost REPEATS prints the time to read all rules, and to ask for the
 // three numbers, at depth 1, 2, 4 and 8.
 // A pile that asked the rack below twice at each layer would need 128 times as long at depth 8 as at depth 1.
+#![tactic(auto)]
+
 use layers::amended::Amended;
 use layers::withheld::Withheld;
 use laying::open_rack::OpenRack;
