@@ -1,8 +1,8 @@
 -- The worked examples hold: lists and models by computation.
-use Rattle.std.proofs.Common.{◌≡◌, ℕ, List, [], ◌∷◌, refl, arith}
+use Rattle.std.proofs.Common.{ℕ, List, [], ◌∷◌, refl, arith}
 use mathlib.Core.List.Memᴰ
 use Rattle.rules.specs.declared.rule.Rule.{Rule}
-use Rattle.rules.specs.Semantics.{Mem, LiteralSet, Overruling, Lists, Rests}
+use Rattle.rules.specs.Semantics.{LiteralSet, Overruling, Lists, Rests}
 use Rattle.rules.proofs.Bitwise.{not_in_zero}
 use Rattle.rules.proofs.Computed.{outcomes, outcomes_list}
 use Rattle.kiosk.specs.declared.call.Call.{Call}
@@ -10,7 +10,7 @@ use Rattle.kiosk.specs.declared.call.Call.TheVariants.{Open, Fact, End}
 use Rattle.kiosk.specs.Book.{Book}
 use Rattle.kiosk.specs.Standing.{shown}
 use Rattle.runs.specs.Running.{after}
-use Rattle.rules.proofs.Rounds.{rests_by, chain}
+use Rattle.rules.proofs.Rounds.{rests_by}
 use Rattle.rules.proofs.Theory.{rests_well_founded}
 use Rattle.orders.specs.Overrules.{by_position, by_grade, by_grade_then_position}
 use Rattle.evaluator.specs.declared.answer.Reading.{Reading}

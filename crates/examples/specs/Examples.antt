@@ -3,7 +3,7 @@ use Rattle.std.specs.Prelude.{ℕ, List, [], ◌∷◌, None}
 use Rattle.rules.specs.declared.rule.Rule.{Rule}
 use Rattle.rules.specs.declared.rule.Sign.{Sign}
 use Rattle.rules.specs.declared.rule.Sign.TheVariants.{Yes, No}
-use Rattle.rules.specs.Semantics.{LiteralSet, Overruling, Lists, Rests}
+use Rattle.rules.specs.Semantics.{Lists, Rests}
 use Rattle.orders.specs.Overrules.{by_position, by_grade, by_grade_then_position}
 use Rattle.evaluator.specs.declared.answer.Reading.TheVariants.{Undefined, False, Contradictory}
 use Rattle.evaluator.specs.declared.answer.Ruling.TheVariants.{Varies, NoOutcome}

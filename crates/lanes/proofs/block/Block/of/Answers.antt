@@ -1,11 +1,7 @@
 use Rattle.std.proofs.Common.{◌≡◌, ℕ, ◌+◌, ◌∙◌, subst, arith}
 use lib.Bits.{bit_or}
 use Rattle.std.proofs.lemmas.Bool.Decides.{not_from_Decides}
-<<<<<<< HEAD
-use Rattle.steps.specs.Subsets.{rank, part}
-=======
-use Rattle.lanes.specs.Subsets.{part}
->>>>>>> 2c596022afa25ba0ffac8aa3710b76fd66bab3ba
+use Rattle.steps.specs.Subsets.{part}
 use Rattle.lanes.proofs.Halves.{Both, both_start, both_more, both_has}
 use Rattle.steps.proofs.Subsets.{rank_le, rank_with, rank_without, rank_none}
 use Rattle.lanes.proofs.block.Block.of.Goals as goal
