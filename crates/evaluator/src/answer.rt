@@ -4,6 +4,7 @@ ghost use Rattle.evaluator.specs.Numbers.{reading_number, ruling_number};
 ghost use Rattle.rules.specs.declared.refusal.Layer.TheVariants.{Evaluator};
 
 use rules::refusal::Layer;
+pub use steps::model::Model;
 
 // Which signs of a matter the well-founded model holds: neither, yes, no, or both.
 #[derive(Clone, Copy, PartialEq, Eq, Debug)]

@@ -2,7 +2,7 @@ ghost use Rattle.steps.specs.Modelling.{Modelled};
 
 use orders::order::Order;
 use racks::rack::Rack;
-use steps::model::{Model, settle};
+pub use steps::model::{Model, settle};
 use steps::overrulers::Overrulers;
 
 // The well-founded model of the rack's sheets under the order, and its rounds.
