@@ -1,8 +1,8 @@
 ghost use Rattle.std.specs.Prelude.{◌≡◌, ◌<◌, ◌≤◌};
 ghost use Rattle.laying.specs.Laying.{under};
 ghost use Rattle.laying.specs.Pocketing.{pocket_meaning, bare, SetsUp};
-ghost use Rattle.std.proofs.Common.{rules, arith};
-ghost use Rattle.laying.specs.Laid.{used_all, below_none};
+ghost use Rattle.racks.specs.Tables.{held_few};
+ghost use Rattle.laying.specs.Laid.{grounded_low};
 
 use crate::fault::RackFault;
 use crate::open_rack::OpenRack;
@@ -50,7 +50,15 @@ fn with_no_sheet(matters: u8) -> PocketRack
 impl Rack for PocketRack {
     ghost meaning = { pocket_meaning };
 
-    ghost kept = { first_of (Prim.search rules, Prim.grind (arith, Self.row.coded.inj)) };
+    ghost kept = { λ x.
+        record {
+          some_matters = x.some;
+          few_matters = x.few;
+          few_sheets = x.low;
+          few_rules = held_few x.table;
+          sound = x.sound;
+          rising = x.rising;
+        } };
 
     fn shape(&self) -> Shape {
         Shape {
@@ -74,11 +82,7 @@ impl OpenRack for PocketRack {
 
     ghost places = { λ _. 64 };
 
-    ghost grounded = { λ x.
-        let u = used_all (pocket_meaning x) in
-        let b = below_none (pocket_meaning x) in
-        let h = x.housed in
-        record { floored = omega arith; housed = omega arith; bounded = omega arith } };
+    ghost grounded = { λ x. grounded_low (pocket_meaning x) x.housed };
 
     fn begin(&mut self) -> Result<(), RackFault> {
         if self.sheets as usize >= MOST_SHEETS {
