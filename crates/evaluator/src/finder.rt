@@ -1,5 +1,4 @@
-use rules::table::Table;
-use steps::overrulers::MOST_SHEETS;
+use rules::table::{MOST_SHEETS, Table};
 
 pub mod bounds;
 mod calls;

@@ -3,10 +3,10 @@ ghost use Rattle.evaluator.specs.Matters.{Reads, ReadingAnswered, RulingAnswered
 
 use crate::answer::{EvaluatorFault, Reading, Ruling};
 use crate::finder::Finder;
-use crate::finder::bounds::has_matter;
 use crate::model::well_founded;
 use orders::order::Order;
 use racks::rack::Rack;
+use rules::matters::has_matter;
 use rules::rule::LiteralSet;
 
 // How the well-founded model reads a matter.

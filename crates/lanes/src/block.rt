@@ -1,7 +1,7 @@
 ghost use Rattle.std.specs.Prelude.{◌≡◌, length};
 
+use rules::matters::MOST_MATTERS;
 use rules::rule::LiteralSet;
-use steps::claims::MOST_MATTERS;
 
 mod calls;
 mod make;

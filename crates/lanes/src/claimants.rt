@@ -1,6 +1,6 @@
 ghost use Rattle.std.specs.Prelude.{◌≡◌, length};
 
-use steps::overrulers::MOST_SHEETS;
+use rules::table::MOST_SHEETS;
 
 pub mod calls;
 

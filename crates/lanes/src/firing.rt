@@ -1,6 +1,6 @@
 ghost use Rattle.std.specs.Prelude.{◌≡◌, ◌≤◌, length};
 
-use steps::claims::MOST_MATTERS;
+use rules::matters::MOST_MATTERS;
 
 pub mod calls;
 pub mod closure;

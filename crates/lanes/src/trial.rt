@@ -1,5 +1,5 @@
 use crate::docket::Docket;
-use steps::overrulers::MOST_SHEETS;
+use rules::table::MOST_SHEETS;
 
 mod founded;
 pub mod outcomes;

@@ -1,9 +1,8 @@
 ghost use Rattle.std.specs.Prelude.{◌≡◌, length};
 
-mod calls;
+use rules::matters::MOST_MATTERS;
 
-// The most matters that a rack may have.
-pub const MOST_MATTERS: usize = 16;
+mod calls;
 
 // A sheet claims a literal in a set if it has a rule with that head, rejected or not, whose body is true there.
 // For each matter: the sheets that claim it, and those that claim its negation.

@@ -4,9 +4,7 @@ ghost use Rattle.steps.specs.Parts.{SetOf, Overrules, Tabled};
 
 use crate::bits::{has_sheet, with_sheet};
 use orders::order::Order;
-
-// The most sheets that a rack may have.
-pub const MOST_SHEETS: usize = 32;
+use rules::table::MOST_SHEETS;
 
 // The order, asked once for each two sheets. Both tables have for each sheet a set of sheets.
 #[derive(Clone, Copy)]

@@ -5,9 +5,8 @@ ghost use Rattle.steps.specs.Claiming.{Against, Standing};
 
 use crate::bits::meet;
 use crate::claims::Claims;
-use crate::overrulers::MOST_SHEETS;
 use rules::rule::{Rule, Sign};
-use rules::table::Table;
+use rules::table::{MOST_SHEETS, Table};
 
 // The rules that are not rejected where these sheets make their claims.
 pub fn survivors(rules: &[Rule], overrulers: &[u32; MOST_SHEETS], claims: &Claims) -> Table

@@ -3,9 +3,9 @@ ghost use Rattle.steps.specs.Parts.{Ready, Tabled};
 
 use crate::claims::Claims;
 use crate::closure::closure;
-use crate::overrulers::MOST_SHEETS;
 use crate::rejection::survivors;
 use rules::rule::{LiteralSet, Rule};
+use rules::table::MOST_SHEETS;
 
 // The closure of the rules that are not rejected in `x` and the defaults in `x`.
 pub fn step(

@@ -1,8 +1,8 @@
-ghost use Rattle.std.specs.Prelude.{◌≡◌, ◌-◌, ◌^◌, ◌<◌, ◌≤◌, if◌then◌else◌, Decides, bit_and, count_ones, nat_eq};
-ghost use Rattle.rules.specs.Semantics.{Mem};
+ghost use Rattle.std.specs.Prelude.{◌≡◌, ◌-◌, ◌^◌, ◌<◌, ◌≤◌, if◌then◌else◌, bit_and, count_ones, nat_eq};
 ghost use Rattle.steps.specs.Parts.{SetOf};
 ghost use Rattle.steps.specs.Subsets.{part, Undecided};
 
+use rules::matters::has_matter;
 use rules::rule::LiteralSet;
 use steps::bits::with_matter;
 
@@ -38,13 +38,6 @@ pub fn numbered(set: u16, number: u32) -> u16
         }
     }
     chosen
-}
-
-pub fn has_matter(set: u16, a: u8) -> bool
-    requires { a < 16 }
-    ensures { Decides result (Mem a set) }
-{
-    (set >> a) % 2 == 1
 }
 
 pub fn all_matters(matters: u8) -> u16

@@ -6,8 +6,7 @@ ghost use Rattle.lanes.specs.Sides.{Takes, PutAs};
 
 use crate::block::Block;
 use crate::block::side::{Side, side_of_bit};
-use rules::matters::has_matter;
-use steps::claims::MOST_MATTERS;
+use rules::matters::{MOST_MATTERS, has_matter};
 
 impl Block {
     // Sixty-four candidates: the yes matters, each time with the part of the undecided ones that has the next number.

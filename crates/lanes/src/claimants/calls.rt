@@ -10,7 +10,7 @@ use crate::block::Block;
 use crate::claimants::Claimants;
 use crate::words::any_of;
 use rules::rule::{Rule, Sign};
-use steps::overrulers::MOST_SHEETS;
+use rules::table::MOST_SHEETS;
 
 impl Claimants {
     // Who claims the literal of this sign, by rules that are all about its matter.

@@ -11,7 +11,7 @@ use crate::block::Block;
 use crate::claimants::Claimants;
 use crate::contest::Contest;
 use rules::rule::{Rule, Sign};
-use steps::overrulers::MOST_SHEETS;
+use rules::table::MOST_SHEETS;
 
 impl Contest {
     // The contest about a matter, by the rules about it.

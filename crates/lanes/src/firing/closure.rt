@@ -3,7 +3,7 @@ ghost use Rattle.lanes.specs.Firing.{Rounded, Reached, Low, Fired};
 
 use crate::firing::{Firing, Firings, Reach};
 use crate::words::all_of;
-use steps::claims::MOST_MATTERS;
+use rules::matters::MOST_MATTERS;
 
 impl Firings {
     // What is reached in the end.

@@ -10,7 +10,7 @@ use crate::block::Block;
 use crate::contest::Contest;
 use crate::firing::{Firing, Firings};
 use rules::rule::Rule;
-use steps::overrulers::MOST_SHEETS;
+use rules::table::MOST_SHEETS;
 
 impl Firings {
     // Enters what the rules about a matter give in these lanes: its default, and each rule that is true there and not rejected.

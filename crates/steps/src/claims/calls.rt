@@ -3,7 +3,8 @@ ghost use Rattle.steps.specs.Parts.{Ready};
 ghost use Rattle.steps.specs.Claiming.{claimed, Claimed, Added, Noted, Unclaimed};
 
 use crate::bits::with_matter;
-use crate::claims::{Claims, MOST_MATTERS};
+use crate::claims::Claims;
+use rules::matters::MOST_MATTERS;
 use rules::rule::{LiteralSet, Rule, Sign};
 
 impl Claims {
