@@ -2,6 +2,7 @@ pub mod Bitwise
 pub mod Literals
 pub mod Theory
 pub mod Computed
+pub mod Filtering
 pub mod Rounds
 pub mod Listing
 pub mod Tautologies

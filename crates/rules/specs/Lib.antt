@@ -4,3 +4,4 @@ pub mod Signs
 pub mod Records
 pub mod Refusals
 pub mod Held
+pub mod Tests

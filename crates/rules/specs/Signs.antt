@@ -1,5 +1,5 @@
 -- The number by which a sign is written: 0 for no, 1 for yes.
-use Rattle.std.specs.Prelude.{◌≡◌, ℕ, ◌≤◌, ◌<◌, Ok, Err, Result}
+use Rattle.std.specs.Prelude.{◌≡◌, ℕ, ◌<◌, Ok, Err, Result}
 use Rattle.rules.specs.declared.rule.Sign.{Sign}
 use Rattle.rules.specs.declared.rule.Sign.TheVariants.{Yes, No}
 

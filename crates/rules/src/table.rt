@@ -3,6 +3,7 @@ ghost use Rattle.std.specs.Prelude.{◌≡◌, ◌≤◌, length};
 use crate::rule::Rule;
 
 mod calls;
+mod filtered;
 
 // The most sheets, and the most rules, that a rack may have.
 pub const MOST_SHEETS: usize = 32;
