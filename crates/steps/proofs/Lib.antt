@@ -1,5 +1,7 @@
 pub mod SetOfs
-pub mod Sifted
+pub mod Gathering
+pub mod Filled
+pub mod Firing
 pub mod Opposing
 pub mod Readiness
 pub mod Subsets

@@ -1,17 +1,12 @@
 -- The rules that survive are ready for the closure, which is then the step.
 use Rattle.std.proofs.Common.{◌≡◌, ℕ, List, subst, arith}
 use Rattle.rules.specs.declared.rule.Rule.{Rule}
-use Rattle.rules.specs.Semantics.{LiteralSet, Mem, ◌∈◌, Overruling, Formed, Survives, Default, Closure, Step}
+use Rattle.rules.specs.Semantics.{LiteralSet, Mem, ◌∈◌, Overruling, Survives, Default, Closure, Step}
 use Rattle.rules.proofs.Theory.{closure_same}
-use Rattle.steps.specs.declared.claims.Claims.{Claims}
-use Rattle.steps.specs.Claiming.{Standing}
 use Rattle.steps.specs.Parts.{Members, SetOf, Ready}
 
 pub ready_wide : {n : ℕ} {P : List Rule} → Ready n P → Ready 16 P
 ready_wide ready = record { few_matters = omega arith; few_rules = ready.few_rules; formed = λ r m. (let h = ready.formed r m in let k = ready.few_matters in omega arith); low_sheets = ready.low_sheets }
-
-pub standing_formed : {P Q R : List Rule} (table : List ℕ) (c : Claims) {n : ℕ} → Ready n P → R ≡ Q → Members Q (Standing P table c) → Formed 16 R
-standing_formed table c ready e s r i = (ready_wide ready).formed r (s.only r (subst (λ (S : List Rule). r ∈ S) e i)).0
 
 -- the closure of the rules that survive, gathered in a list, and of the defaults, gathered in a set, is the step
 pub step_of : {P Q R : List Rule} {over : Overruling} {n m : ℕ} {X Y : LiteralSet} → R ≡ Q → Members Q (Survives P over X) → SetOf m (Default P n X) → Closure (λ r. r ∈ R) (λ a. Mem a m) Y → Step P over n X Y

@@ -1,12 +1,12 @@
 -- For a loop that gathers a set: it has those of the first i that are wanted, and no other.
-use Rattle.std.proofs.Common.{◌≡◌, ℕ, zero, suc, ◌+◌, ◌/◌, ◌%◌, ◌^◌, ◌<◌, Bool, false, cond, List, length, get_or, set, replicate, Decides, sym, refl, ◌∙◌, subst, ⊎_elim, arith, get_or-set_other, get_or-set_same, below_more}
+use Rattle.std.proofs.Common.{◌≡◌, ℕ, zero, suc, ◌+◌, ◌/◌, ◌%◌, ◌^◌, ◌<◌, Bool, false, cond, not, eqb, get_or, replicate, Decides, sym, refl, ◌∙◌, subst, ⊎_elim, arith}
 use mathlib.Core.Bool.{false≢true}
 use native.Mathlib.Nat.{pow-succ'}
-use lib.Bits.{bit_or}
+use lib.Bits.{bit_and, bit_or}
 use Rattle.std.proofs.lemmas.Bool.{cases_lt, cases_eq, cond_both}
-use Rattle.std.proofs.lemmas.Bool.Decides.{not_from_Decides}
+use Rattle.std.proofs.lemmas.Bool.Decides.{not_from_Decides, Decides-eqb, Decides-not, Decides-like}
 use Rattle.rules.specs.Semantics.{Mem}
-use Rattle.rules.proofs.Bitwise.{mem_or_left, mem_or_right, mem_or_cases, mem_one, mem_one_is, not_in_zero, same_members, below_pow, half_bit, two}
+use Rattle.rules.proofs.Bitwise.{mem_and, mem_and_left, mem_and_right, mem_or_left, mem_or_right, mem_or_cases, mem_one, mem_one_is, not_in_zero, same_members, below_pow, half_bit, two}
 use Rattle.steps.specs.Parts.{SetOf}
 
 abbrev pub First : ℕ → (ℕ → Type 0) → ℕ → Type 0
@@ -61,11 +61,12 @@ some_member m f = search_up m m (below_pow m) f
         (λ o. (0, (let e : m / 1 % 2 ≡ 1 = omega arith in e)))
         (two m)
 
--- the rows of a table, one after the other
-pub row_more : {P : ℕ → ℕ → Type 0} (t : List ℕ) {i v : ℕ} → i < length t → ((k : ℕ) → k < i → SetOf (get_or t k 0) (P k)) → SetOf v (P i) → (k : ℕ) → k < i + 1 → SetOf (get_or (set t i v) k 0) (P k)
-row_more {P} t {i} {v} l rows s = below_more (λ k. SetOf (get_or (set t i v) k 0) (P k)) i
-    (λ k h. subst (λ (x : ℕ). SetOf x (P k)) (sym (get_or-set_other t i k v 0 (omega arith))) (rows k h))
-    (subst (λ (x : ℕ). SetOf x (P i)) (sym (get_or-set_same t i v 0 l)) s)
+-- whether two sets have some member in common
+pub decides_meet : (x y : ℕ) → Decides (not (eqb (bit_and x y) 0)) ((j : ℕ) × Mem j x × Mem j y)
+decides_meet x y = Decides-like _
+    (λ f. let w = some_member (bit_and x y) f in (w.0, mem_and_left w.0 x y w.1, mem_and_right w.0 x y w.1))
+    (λ w e. not_in_zero w.0 (subst (Mem w.0) e (mem_and w.0 x y w.1 w.2)))
+    (Decides-not (eqb (bit_and x y) 0) (Decides-eqb (bit_and x y) 0))
 
 pub zero_at : (n i : ℕ) → ◌≡◌ {A = ℕ} (get_or (replicate n 0) i 0) 0
 zero_at zero i = refl

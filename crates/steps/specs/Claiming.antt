@@ -1,5 +1,5 @@
 -- Which sheets claim a literal, and what follows of rejection and defaults.
-use Rattle.std.specs.Prelude.{◌≡◌, ℕ, ◌^◌, ◌<◌, ◌⊎◌, List, length, bit_or, slice_index, slice_index_or, slice_set}
+use Rattle.std.specs.Prelude.{◌≡◌, ℕ, ◌<◌, ◌⊎◌, List, length, slice_index, slice_index_or}
 use Rattle.rules.specs.declared.rule.Rule.{Rule}
 use Rattle.rules.specs.declared.rule.Sign.{Sign}
 use Rattle.rules.specs.declared.rule.Sign.TheVariants.{Yes, No}
@@ -31,11 +31,6 @@ pub record ClaimedEarly (P : List Rule) (i : ℕ) (X : LiteralSet) (c : Claims) 
 -- c has the claims in X
 abbrev pub Claimed : List Rule → LiteralSet → Claims → Type 0
 Claimed P X c = ClaimedEarly P (length P) X c
-
--- d has the claims of c, and that of sheet j to the literal
-pub record Added (s : Sign) (a j : ℕ) (c d : Claims) : Type 0 where
-  pub here : claimed s d ≡ slice_set (claimed s c) a (bit_or (slice_index (claimed s c) a) (2 ^ j))
-  pub there : claimed (opposite s) d ≡ claimed (opposite s) c
 
 -- d has the claims of c, and that of the rule
 pub record Noted (r : Rule) (X : LiteralSet) (c d : Claims) : Type 0 where

@@ -1,4 +1,3 @@
-pub mod Firing
 pub mod Parts
 pub mod Ruling
 pub mod Claiming

@@ -1,13 +1,5 @@
-ghost use Rattle.std.specs.Prelude.{◌≡◌, ℕ, ◌^◌, ◌<◌, if◌then◌else◌, Decides, bit_or};
-ghost use Rattle.rules.specs.Semantics.{Mem};
-
-// Whether the set of sheets has sheet `j`.
-pub fn has_sheet(set: u32, j: u8) -> bool
-    requires { j < 32 }
-    ensures { Decides result (Mem j set) }
-{
-    (set >> j) % 2 == 1
-}
+ghost use Rattle.std.specs.Prelude.{◌≡◌, ℕ, ◌^◌, ◌<◌, ◌≤◌, if◌then◌else◌, Decides, bit_or};
+ghost use Rattle.rules.specs.Semantics.{Mem, member};
 
 // Whether some sheet is in both sets.
 pub fn meet(x: u32, y: u32) -> bool
@@ -16,11 +8,20 @@ pub fn meet(x: u32, y: u32) -> bool
     x & y != 0
 }
 
-pub fn with_sheet(set: u32, j: u8, wanted: bool) -> u32
-    requires { j < 32 }
-    ensures { result ≡ (if wanted then bit_or set (2 ^ j) else set) }
+// The numbers below `limit` that are wanted, as a set.
+pub fn those<F: Fn(u8) -> bool>(limit: u8, wanted: F) -> u32
+    requires fits { limit ≤ 32 }
+    requires callable { (a : ℕ) → a < limit → F.pre wanted a }
+    ensures below { result < 2 ^ limit }
+    ensures each { (a : ℕ) → a < limit → F.post wanted a (member a result) }
 {
-    if wanted { set | (1 << j) } else { set }
+    let mut set = 0;
+    for a in 0..limit {
+        if wanted(a) {
+            set |= 1 << a;
+        }
+    }
+    set
 }
 
 pub fn with_matter(set: u16, a: u8, wanted: bool) -> u16

@@ -1,7 +1,6 @@
 ghost use Rattle.std.specs.Prelude.{◌≡◌, ◌<◌, Decides};
 ghost use Rattle.rules.specs.Semantics.{Mem, ◌∈◌, Formed, Closure};
-ghost use Rattle.rules.specs.Parts.{plus, Round};
-ghost use Rattle.steps.specs.Firing.{Fired};
+ghost use Rattle.rules.specs.Parts.{Round};
 
 use rules::rule::{LiteralSet, Rule, Sign};
 
@@ -13,7 +12,7 @@ pub fn closure(rules: &[Rule], defaults: u16) -> LiteralSet
     let mut y = (0, defaults);
     'grow: loop {
         let z = round(rules, y);
-        if same(z, y) {
+        if z == y {
             break 'grow y;
         }
         y = z;
@@ -23,7 +22,7 @@ pub fn closure(rules: &[Rule], defaults: u16) -> LiteralSet
 pub fn same(x: LiteralSet, y: LiteralSet) -> bool
     ensures { Decides result (x ≡ y) }
 {
-    x.0 == y.0 && x.1 == y.1
+    x == y
 }
 
 // `y` with the heads of the rules whose body is true in `y`.
@@ -33,25 +32,12 @@ fn round(rules: &[Rule], y: LiteralSet) -> LiteralSet
 {
     let mut z = y;
     for r in rules {
-        z = fire(*r, y, z);
+        if r.body_true(y) {
+            match r.sign {
+                Sign::Yes => z.0 |= 1 << r.head,
+                Sign::No => z.1 |= 1 << r.head,
+            }
+        }
     }
     z
-}
-
-// `z` with the head of the rule if its body is true in `y`.
-fn fire(r: Rule, y: LiteralSet, z: LiteralSet) -> LiteralSet
-    requires { r.head < 16 }
-    ensures { Fired r y z result }
-{
-    if r.body_true(y) { with_head(z, r) } else { z }
-}
-
-fn with_head(z: LiteralSet, r: Rule) -> LiteralSet
-    requires { r.head < 16 }
-    ensures { result ≡ plus z r.sign r.head }
-{
-    match r.sign {
-        Sign::Yes => (z.0 | (1 << r.head), z.1),
-        Sign::No => (z.0, z.1 | (1 << r.head)),
-    }
 }

@@ -7,4 +7,5 @@ pub mod closure;
 pub mod model;
 pub mod overrulers;
 mod rejection;
+pub mod sheets;
 pub mod step;

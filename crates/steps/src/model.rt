@@ -3,7 +3,6 @@ ghost use Rattle.steps.specs.Modelling.{Modelled};
 ghost use Rattle.steps.specs.Parts.{Ready};
 ghost use Rattle.steps.specs.Ruling.{Ruled};
 
-use crate::closure::same;
 use crate::overrulers::Overrulers;
 use crate::step::step;
 use rules::rule::{LiteralSet, Rule};
@@ -17,7 +16,8 @@ pub struct Model {
 
 // Takes turns of the broad and the narrow step from the empty set until one adds nothing.
 pub fn settle(rules: &[Rule], matters: u8, overrulers: &Overrulers) -> Model
-    requires { (Ready matters rules.now) × (((over : Overruling) × Ruled over overrulers.now)) }
+    requires ready { Ready matters rules.now }
+    requires ruled { (over : Overruling) × Ruled over overrulers.now }
     ensures { (over : Overruling) → Ruled over overrulers.now → Modelled rules.now over matters result }
 {
     let mut x = (0, 0);
@@ -25,7 +25,7 @@ pub fn settle(rules: &[Rule], matters: u8, overrulers: &Overrulers) -> Model
     let (literals, rounds) = 'turns: loop {
         let y = step(rules, matters, &overrulers.broad, x);
         let z = step(rules, matters, &overrulers.narrow, y);
-        if same(z, x) {
+        if z == x {
             break 'turns (x, rounds);
         }
         x = z;

@@ -2,7 +2,7 @@ use Rattle.std.proofs.Common.{ℕ, ◌<◌, get_or}
 use Rattle.rules.specs.declared.rule.Rule.{Rule}
 use Rattle.rules.specs.Semantics.{LiteralSet, ◌⊆◌, ◌∈◌}
 use Rattle.rules.specs.Parts.{no_rule}
-use Rattle.steps.specs.Firing.{Fires}
+use Rattle.steps.proofs.Firing.{Fires}
 use Rattle.steps.proofs.closure.round.Given as goal
 
 abbrev pub invariant-loop-r : goal.invariant-loop-r
