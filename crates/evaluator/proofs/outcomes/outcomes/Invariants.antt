@@ -7,7 +7,4 @@ abbrev pub invariant-loop-m : goal.invariant-loop-m
 invariant-loop-m g l =
     let m = g.R.Rack.meaning l.rack in
     let over = g.O.Order.over l.order in
-    (p : ℕ) × From m.rules over m.matters l.finder p × Found m.rules over m.matters p l.count l.initial.list l.list
-
-abbrev pub decreases-loop-m : goal.decreases-loop-m
-decreases-loop-m g l = length l.list - l.count
+    (p : ℕ) × From m.rules over m.matters l.m-iterator p × Found m.rules over m.matters p l.count l.initial.list l.list
