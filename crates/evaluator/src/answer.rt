@@ -3,7 +3,8 @@ ghost use Rattle.evaluator.specs.Faults.{fault_number};
 ghost use Rattle.evaluator.specs.Numbers.{reading_number, ruling_number};
 ghost use Rattle.rules.specs.declared.refusal.Layer.TheVariants.{Evaluator};
 
-use rules::refusal::Layer;
+use rules::refusal::{Layer, Refusal};
+use std::fmt;
 pub use steps::model::Model;
 
 // Which signs of a matter the well-founded model holds: neither, yes, no, or both.
@@ -20,6 +21,17 @@ impl Reading {
         ensures { result ≡ reading_number self }
     {
         self as u8
+    }
+}
+
+impl fmt::Display for Reading {
+    fn fmt<W: fmt::Write>(&self, f: &mut fmt::Formatter<W>) -> fmt::Result {
+        f.write_str(match self {
+            Reading::Undefined => "undefined",
+            Reading::True => "true",
+            Reading::False => "false",
+            Reading::Contradictory => "both",
+        })
     }
 }
 
@@ -40,6 +52,17 @@ impl Ruling {
     }
 }
 
+impl fmt::Display for Ruling {
+    fn fmt<W: fmt::Write>(&self, f: &mut fmt::Formatter<W>) -> fmt::Result {
+        f.write_str(match self {
+            Ruling::Always => "in every outcome",
+            Ruling::Never => "in no outcome",
+            Ruling::Varies => "in some outcomes",
+            Ruling::NoOutcome => "there is no outcome",
+        })
+    }
+}
+
 #[derive(Clone, Copy, PartialEq, Eq, Debug)]
 pub enum EvaluatorFault {
     // The matter is not below the rack's number of matters.
@@ -50,16 +73,16 @@ pub enum EvaluatorFault {
     TextTooLong = 32,
 }
 
-impl EvaluatorFault {
-    pub fn number(self) -> u8
-        ensures { result ≡ fault_number self }
-    {
+impl Refusal for EvaluatorFault {
+    ghost numbered = { fault_number };
+
+    ghost layered = { λ _. Evaluator };
+
+    fn number(self) -> u8 {
         self as u8
     }
 
-    pub fn layer(self) -> Layer
-        ensures { result ≡ Evaluator }
-    {
+    fn layer(self) -> Layer {
         Layer::Evaluator
     }
 }

@@ -8,8 +8,8 @@ use crate::finder::Finder;
 use crate::model::well_founded;
 use orders::order::Order;
 use racks::rack::Rack;
-use rules::matters::has_matter;
 use rules::rule::LiteralSet;
+use rules::sets::has;
 
 // How the well-founded model reads a matter.
 pub fn reading<R: Rack, O: Order>(
@@ -29,7 +29,7 @@ pub fn ruling<R: Rack, O: Order>(rack: &R, order: &O, matter: u8) -> Result<Ruli
 {
     known(rack, matter)?;
     Ok(Finder::new(rack, order).fold(Ruling::NoOutcome, |ruling, m| {
-        ruling.after(has_matter(m, matter))
+        ruling.after(has(m.into(), matter))
     }))
 }
 
@@ -45,10 +45,9 @@ fn known<R: Rack>(rack: &R, matter: u8) -> Result<(), EvaluatorFault>
 }
 
 fn read(x: LiteralSet, matter: u8) -> Reading
-    requires { matter < 16 }
     ensures { Reads x matter result }
 {
-    match (has_matter(x.0, matter), has_matter(x.1, matter)) {
+    match (has(x.0.into(), matter), has(x.1.into(), matter)) {
         (false, false) => Reading::Undefined,
         (true, false) => Reading::True,
         (false, true) => Reading::False,
