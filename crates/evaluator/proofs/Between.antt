@@ -1,7 +1,7 @@
 -- The sets that a finder tries: the outcomes are among them.
-use Rattle.std.proofs.Common.{◌≡◌, ℕ, ◌-◌, ◌^◌, ◌<◌, ◌≤◌, cond, eqb, ◌⊎◌, List, length, sym, refl, ap, ◌∙◌, subst, inl, inr, ⊎_elim, arith, pow_mono}
+use Rattle.std.proofs.Common.{◌≡◌, ℕ, ◌-◌, ◌^◌, ◌<◌, ◌≤◌, cond, eqb, ◌⊎◌, List, sym, refl, ap, ◌∙◌, subst, inl, inr, ⊎_elim, arith}
 use lib.Bits.{bit_and, bit_or, or_lt, or_disjoint}
-use lib.Count.{ones, ones-le}
+use lib.Count.{ones}
 use Rattle.std.proofs.lemmas.Bool.{cond_both, eqb-false}
 use Rattle.rules.specs.declared.rule.Rule.{Rule}
 use Rattle.rules.specs.declared.rule.Sign.TheVariants.{Yes}
@@ -13,7 +13,7 @@ use Rattle.racks.specs.Meaning.{Meaning}
 use Rattle.evaluator.proofs.Readiness.{read_as}
 use Rattle.evaluator.specs.declared.finder.Finder.{Finder}
 use Rattle.evaluator.specs.Finding.{From}
-use Rattle.steps.specs.Parts.{SetOf, Ready, Tabled}
+use Rattle.steps.specs.Parts.{SetOf, Tabled}
 use Rattle.steps.specs.Subsets.{part, Undecided}
 use Rattle.steps.proofs.SetOfs.{empty_zero}
 use Rattle.steps.proofs.Subsets.{part_within, part_rising, part_onto}

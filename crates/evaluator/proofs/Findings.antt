@@ -1,13 +1,9 @@
--- A finder on its way: it passes a set that is no outcome, gives one that is, and comes to an end.
-use Rattle.std.proofs.Common.{◌≡◌, ℕ, ◌+◌, ◌<◌, ◌≤◌, Bool, List, Decides, ap, ◌∙◌, subst, ⊎_elim, arith}
+-- What a list holds as the outcomes come: those below a number, and at the end all of them.
+use Rattle.std.proofs.Common.{ℕ, ◌<◌, ◌≤◌, List, ⊎_elim, arith}
 use Rattle.std.proofs.lemmas.Bool.{cases_lt}
 use Rattle.rules.specs.declared.rule.Rule.{Rule}
-use Rattle.rules.specs.Held.{held}
 use Rattle.rules.specs.Semantics.{Overruling, Outcome, Lists}
 use Rattle.rules.proofs.Listing.{ListsBelow, Found}
-use Rattle.evaluator.specs.declared.finder.Finder.{Finder}
-use Rattle.evaluator.specs.Finding.{candidate, Waits, From, Given}
-use Rattle.steps.specs.Parts.{Tabled}
 
 -- the outcomes below p are those below m where there is none between
 pub found_far : {P : List Rule} {over : Overruling} {n p m count : ℕ} {old new : List ℕ} → p ≤ m → ((M : ℕ) → p ≤ M → M < m → Outcome P over n M → ⊥) → Found P over n p count old new → Found P over n m count old new

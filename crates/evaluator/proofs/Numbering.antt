@@ -1,5 +1,5 @@
 -- The part of a set with a number, put together from the matters of the set in turn.
-use Rattle.std.proofs.Common.{◌≡◌, ℕ, Option, Some, Decides, zero, suc, ◌+◌, ◌*◌, ◌/◌, ◌%◌, ◌^◌, ◌<◌, min, Bool, true, false, cond, eqb, List, [], ◌∷◌, length, get_or, sym, refl, ap, ◌∙◌, add-one, arith, bit_or}
+use Rattle.std.proofs.Common.{◌≡◌, ℕ, Option, Some, Decides, zero, suc, ◌+◌, ◌*◌, ◌/◌, ◌%◌, ◌^◌, ◌<◌, min, Bool, true, false, cond, eqb, List, ◌∷◌, length, get_or, sym, refl, ap, ◌∙◌, add-one, arith, bit_or}
 use native.Mathlib.Nat.{pow-succ'}
 use Rattle.std.proofs.Math.Nat.{mul-add, mul_assoc, mul_comm, one-mul}
 use Rattle.std.proofs.lemmas.Nat.{shr-shr}

@@ -1,21 +1,19 @@
 -- A finder tries its candidates in turn until one is an outcome.
-use Rattle.std.proofs.Common.{◌≡◌, ℕ, ◌+◌, ◌-◌, ◌<◌, ◌≤◌, Bool, true, List, [], ◌∷◌, Option, Some, None, MatchOption, IfSome, IsTrue, sym, refl, ap, ◌∙◌, subst, ⊎_elim, arith}
+use Rattle.std.proofs.Common.{◌≡◌, ℕ, ◌+◌, ◌-◌, ◌<◌, ◌≤◌, List, [], ◌∷◌, Option, Some, None, MatchOption, IfSome, IsTrue, sym, ap, ◌∙◌, subst, ⊎_elim, arith}
 use denote.Param.Members.{Mut, Called}
 use Rattle.std.proofs.lemmas.Bool.{cases_lt}
 use Rattle.std.proofs.iter.Yields.{nat_range_steps}
 use Rattle.std.proofs.iter.runs.Sources.{range_runs}
 use Rattle.std.specs.Iterator.{Yields, FindsMapped}
-use Rattle.std.specs.Iterator.Runs.{Run, SomeRun, AllItemsGive, IsFirstToGive}
+use Rattle.std.specs.Iterator.Runs.{SomeRun, AllItemsGive, IsFirstToGive}
 use Rattle.std.specs.List.{FoldsTo}
 use Rattle.std.specs.Option.{option_map}
 use Rattle.std.specs.declared.ops.Range.{Range}
 use Rattle.rules.specs.declared.rule.Rule.{Rule}
 use Rattle.rules.specs.Held.{held}
-use Rattle.rules.specs.Semantics.{Overruling, Outcome}
-use Rattle.evaluator.specs.declared.finder.Finder.{Finder}
+use Rattle.rules.specs.Semantics.{Outcome}
 use Rattle.evaluator.specs.declared.finder.candidates.Candidates.{Candidates}
-use Rattle.evaluator.specs.Finding.{candidate, Tried, Waits, From, Given, Hands}
-use Rattle.steps.specs.Parts.{Tabled}
+use Rattle.evaluator.specs.Finding.{candidate, Tried, Hands}
 
 -- y is the answer at the first number of the range s at which there is one, and u is what is left of the range then
 pub record FirstAt (gives : ℕ → Option ℕ → Type 0) (s u : Range ℕ) (y : ℕ) : Type 0 where

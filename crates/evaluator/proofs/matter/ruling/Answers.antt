@@ -1,4 +1,4 @@
-use Rattle.std.proofs.Common.{ℕ, true, false, refl, ap, arith, rules}
+use Rattle.std.proofs.Common.{false, refl, rules}
 use Rattle.evaluator.proofs.Surveyed.{noted_start, surveyed}
 use Rattle.evaluator.proofs.matter.ruling.Goals as goal
 

@@ -1,4 +1,4 @@
-use Rattle.std.proofs.Common.{◌≡◌, List, refl, ap, subst}
+use Rattle.std.proofs.Common.{List, refl, ap, subst}
 use Rattle.rules.specs.declared.rule.Rule.{Rule}
 use Rattle.rules.specs.declared.rule.Shape.{Shape}
 use Rattle.rules.specs.Held.{held}
@@ -13,9 +13,6 @@ settle-requires g c = (
   read_ready (g.met.R.Rack.kept c.args.rack.now) (ap (λ (s : Shape). s.matters) c.shape-matters.ensures) c.as_slice.ensures c.read-table.ensures,
   (g.O.Order.over c.args.order.now, record { broad = c.of-overrulers.ensures.broad; narrow = c.of-overrulers.ensures.narrow }),
 )
-
-pub undecided-undecided-requires : goal.undecided-undecided-requires
-undecided-undecided-requires g c = (read_ready (g.met.R.Rack.kept c.args.rack.now) (ap (λ (s : Shape). s.matters) c.shape-matters.ensures) c.as_slice.ensures c.read-table.ensures).few_matters
 
 pub invariant_of-candidates : goal.invariant_of-candidates
 invariant_of-candidates g c =

@@ -1,4 +1,4 @@
-use Rattle.std.proofs.Common.{◌≡◌, ℕ, rules, arith}
+use Rattle.std.proofs.Common.{rules, arith}
 use Rattle.evaluator.specs.Finding.{Tried}
 use Rattle.evaluator.proofs.Tries.{end_kept, first, hands}
 use Rattle.evaluator.proofs.finder.calls.FinderIterator.next.Goals as goal
