@@ -1,4 +1,4 @@
-ghost use Rattle.std.specs.Prelude.{◌≡◌, ◌<◌, ◌||◌, Bool, not};
+ghost use Rattle.std.specs.Prelude.{◌≡◌, ◌||◌, Bool, not};
 ghost use Rattle.rules.specs.Refusals.{Judged};
 ghost use Rattle.evaluator.specs.Faults.{fault_number};
 ghost use Rattle.evaluator.specs.Matters.{Reads, ReadingAnswered, RulingAnswered, matter_table, sum};

@@ -1,4 +1,4 @@
-ghost use Rattle.std.specs.Prelude.{◌≡◌, ◌-◌, ◌^◌, ◌<◌, ◌≤◌, if◌then◌else◌, bit_and, count_ones, nat_eq};
+ghost use Rattle.std.specs.Prelude.{◌≡◌, ◌-◌, ◌^◌, ◌≤◌, if◌then◌else◌, bit_and, count_ones, nat_eq};
 ghost use Rattle.steps.specs.Parts.{SetOf};
 ghost use Rattle.steps.specs.Subsets.{part, Undecided};
 
