@@ -1,5 +1,5 @@
 -- From what a rack's call says to the book's step.
-use Rattle.std.specs.Prelude.{◌≡◌, ℕ, ◌+◌, ◌-◌, ◌^◌, ◌<◌, ◌≤◌, Bool, true, false, cond, not, ◌&&◌, leb, List, [], ◌∷◌, ◌++◌, length, drop, Some, None, Ok, Err, Result, ◌==◌, nat_le, nat_lt, refl}
+use Rattle.std.specs.Prelude.{◌≡◌, ℕ, ◌+◌, ◌-◌, ◌^◌, ◌<◌, ◌≤◌, Bool, true, false, cond, not, ◌&&◌, leb, List, [], ◌∷◌, ◌++◌, length, drop, Some, None, Ok, Err, Option, Result, ◌==◌, nat_le, nat_lt, refl}
 use Rattle.std.proofs.Common.{sym, ap, ◌∙◌, ⊎_elim, arith, pow_pos}
 use Rattle.std.proofs.lemmas.Bool.{lt-ltb, eq-eqb, le-leb, lt-leb, and_from, and_parts, eqb-true, ltb-true, leb-true, true≢false, false≢true}
 use Rattle.rules.specs.declared.record.Record.{Record}
@@ -117,24 +117,24 @@ module _ (g h : Ground) (kept : Kept g.meaning) where
 
 -- Sessions
 
--- no session: the book has no slip
-pub unseated : (C : Call) (b : Bool) (fs : List Fact) (g : Ground) (r : Result (Unit {0}) KioskFault) (k : Book) → b ≡ false → Does (step (booked g None) C) r k → Does (step (booked g (slip_of b fs)) C) r k
-unseated C true fs g r k e d = absurd (true≢false e)
-unseated C false fs g r k e d = d
+-- no session before and none after: neither book has a slip
+pub passed_on : (C : Call) (g h : Ground) (b : Bool) (fs : List Fact) (o : Option ℕ) (es : List Fact) (r : Result (Unit {0}) KioskFault) → b ≡ false → o ≡ None → Does (step (booked g None) C) r (booked h None) → Does (step (booked g (slip_of b fs)) C) r (booked h (slip_of (seated (shaped h.meaning) o es) es))
+passed_on C g h true fs o es r e n d = absurd (true≢false e)
+passed_on C g h false fs o es r e n d = rw n d
 
 -- a test of the shape below is one of what the rack below stands for
-pub seated_is : {v : Bool} (w : Bool) {below : Shape} (m : Meaning) (n : ℕ) (o : Bool) (fs : List Fact) → below ≡ shaped m → v ≡ seated below n o fs → v ≡ w → seated (shaped m) n o fs ≡ w
-seated_is w m n o fs q h e = sym (h ∙ ap (λ (x : Shape). seated x n o fs) q) ∙ e
+pub seated_is : {v : Bool} (w : Bool) {below : Shape} (m : Meaning) (o : Option ℕ) (fs : List Fact) → below ≡ shaped m → v ≡ seated below o fs → v ≡ w → seated (shaped m) o fs ≡ w
+seated_is w m o fs q h e = sym (h ∙ ap (λ (x : Shape). seated x o fs) q) ∙ e
 
-pub seated_from : (m : Meaning) (n : ℕ) (o : Bool) (fs : List Fact) → o ≡ true → m.matters ≡ n → m.sheets < 32 → length m.rules + length fs ≤ 256 → seated (shaped m) n o fs ≡ true
-seated_from m n o fs t e l s = and_from _ _ t (and_from _ _ (eq-eqb _ _ e) (and_from _ _ (lt-ltb _ _ l) (le-leb _ _ s)))
+pub seated_from : (m : Meaning) (o : Option ℕ) (fs : List Fact) → o ≡ Some m.matters → m.sheets < 32 → length m.rules + length fs ≤ 256 → seated (shaped m) o fs ≡ true
+seated_from m o fs e l s = rw e (and_from _ _ (eq-eqb m.matters m.matters refl) (and_from _ _ (lt-ltb _ _ l) (le-leb _ _ s)))
 
-pub seated_parts : (m : Meaning) (n : ℕ) (o : Bool) (fs : List Fact) → seated (shaped m) n o fs ≡ true → (o ≡ true) × (m.matters ≡ n) × (m.sheets < 32) × (length m.rules + length fs ≤ 256)
-seated_parts m n o fs h =
-    let a = and_parts o _ h in
-    let b = and_parts (m.matters == n) _ a.1 in
+pub seated_parts : (m : Meaning) (o : Option ℕ) (fs : List Fact) → seated (shaped m) o fs ≡ true → (o ≡ Some m.matters) × (m.sheets < 32) × (length m.rules + length fs ≤ 256)
+seated_parts m None fs h = absurd (false≢true h)
+seated_parts m (Some n) fs h =
+    let b = and_parts (m.matters == n) _ h in
     let c = and_parts (nat_lt m.sheets 32) (nat_le (length m.rules + length fs) 256) b.1 in
-    (a.0, eqb-true _ _ b.0, ltb-true _ _ c.0, leb-true _ _ c.1)
+    (ap Some (sym (eqb-true _ _ b.0)), ltb-true _ _ c.0, leb-true _ _ c.1)
 
 pub open_full : (g : Ground) (b : Bool) (fs : List Fact) → b ≡ false → 32 ≤ g.meaning.sheets → Does (step (booked g (slip_of b fs)) Open) (Err NoRoom) (booked g (slip_of b fs))
 open_full g true fs e h = absurd (true≢false e)

@@ -1,7 +1,9 @@
-ghost use Rattle.std.specs.Prelude.{◌≡◌, [], IfErr, Some, MatchResult, OnOk};
+ghost use Rattle.std.specs.Prelude.{◌≡◌, [], true, false, IfOk, IfErr, Some, None, MatchResult, OnOk, OnErr};
 ghost use Rattle.laying.specs.Laying.{ground};
 ghost use Rattle.kiosk.specs.Book.{step, Does, bare, ended};
-ghost use Rattle.kiosk.specs.Standing.{book_of, start};
+ghost use Rattle.kiosk.specs.Standing.{book_of, start, kiosk_seated};
+ghost use Rattle.racks.specs.Meaning.{shaped};
+ghost use Rattle.kiosk.specs.declared.fault.KioskFault.TheVariants.{SessionOpen};
 ghost use Rattle.kiosk.specs.declared.call.Call.TheVariants.{Begin as BeginCall, Lay as LayCall, Withdraw as WithdrawCall, Open as OpenCall, Fact as FactCall, End as EndCall};
 
 use crate::fault::KioskFault;
@@ -11,28 +13,21 @@ use crate::ticket::{Returned, Ticket};
 use laying::open_rack::OpenRack;
 use racks::rack::Rack;
 use rules::record::Record;
-use rules::table::MOST_RULES;
+use rules::rule::Shape;
+use rules::table::{MOST_RULES, MOST_SHEETS};
 use std::alloc::Global;
 
-const MOST_SHEETS: u8 = 32;
-
-const MOST_FACTS: usize = 16;
-
 impl<R: OpenRack> Kiosk<R> {
-    // Sets a kiosk up on a rack, without a session. Where there is no memory for the slip, the rack comes back.
-    pub fn new(heap: Global, rack: R) -> Result<Kiosk<R>, R>
+    // Sets a kiosk up on a rack, without a session. The slip needs no heap, so the rack never comes back;
+    // `heap` and the result's type stay for the callers that were written when it could.
+    pub fn new(_heap: Global, rack: R) -> Result<Kiosk<R>, R>
         ensures { MatchResult result (λ k. book_of R.Rack.meaning R.OpenRack.floor R.OpenRack.places k ≡ start (ground (R.Rack.meaning rack) (R.OpenRack.floor rack) (R.OpenRack.places rack))) (λ e. e ≡ rack) }
     {
-        let matters = rack.shape().matters;
-        match Vec::with_capacity(heap, MOST_FACTS) {
-            Ok(facts) => Ok(Kiosk {
-                rack,
-                matters,
-                session: false,
-                slip: Slip { facts },
-            }),
-            Err(_) => Err(rack),
-        }
+        Ok(Kiosk {
+            rack,
+            session: None,
+            slip: Slip::new(),
+        })
     }
 
     // Hands the rack back.
@@ -41,7 +36,6 @@ impl<R: OpenRack> Kiosk<R> {
     {
         let Kiosk {
             rack,
-            matters: _,
             session: _,
             slip: _,
         } = self;
@@ -52,10 +46,7 @@ impl<R: OpenRack> Kiosk<R> {
     pub fn begin(&mut self) -> Result<(), KioskFault>
         ensures { Does (step (book_of R.Rack.meaning R.OpenRack.floor R.OpenRack.places self.old) BeginCall) result (book_of R.Rack.meaning R.OpenRack.floor R.OpenRack.places self.new) }
     {
-        if self.seated(self.rack.shape()) {
-            return Err(KioskFault::SessionOpen);
-        }
-        self.session = false;
+        self.idle()?;
         self.rack.begin()?;
         Ok(())
     }
@@ -64,10 +55,7 @@ impl<R: OpenRack> Kiosk<R> {
     pub fn lay(&mut self, record: Record) -> Result<(), KioskFault>
         ensures { Does (step (book_of R.Rack.meaning R.OpenRack.floor R.OpenRack.places self.old) (LayCall «record»)) result (book_of R.Rack.meaning R.OpenRack.floor R.OpenRack.places self.new) }
     {
-        if self.seated(self.rack.shape()) {
-            return Err(KioskFault::SessionOpen);
-        }
-        self.session = false;
+        self.idle()?;
         self.rack.lay(record)?;
         Ok(())
     }
@@ -76,10 +64,7 @@ impl<R: OpenRack> Kiosk<R> {
     pub fn withdraw(&mut self) -> Result<(), KioskFault>
         ensures { Does (step (book_of R.Rack.meaning R.OpenRack.floor R.OpenRack.places self.old) WithdrawCall) result (book_of R.Rack.meaning R.OpenRack.floor R.OpenRack.places self.new) }
     {
-        if self.seated(self.rack.shape()) {
-            return Err(KioskFault::SessionOpen);
-        }
-        self.session = false;
+        self.idle()?;
         self.rack.withdraw()?;
         Ok(())
     }
@@ -89,16 +74,11 @@ impl<R: OpenRack> Kiosk<R> {
         ensures book { Does (step (book_of R.Rack.meaning R.OpenRack.floor R.OpenRack.places self.old) OpenCall) (bare result) (book_of R.Rack.meaning R.OpenRack.floor R.OpenRack.places self.new) }
         ensures slip { OnOk result ((book_of R.Rack.meaning R.OpenRack.floor R.OpenRack.places self.new).slip ≡ Some []) }
     {
-        let below = self.rack.shape();
-        if self.seated(below) {
-            return Err(KioskFault::SessionOpen);
-        }
-        if below.sheets >= MOST_SHEETS {
+        let below = self.idle()?;
+        if below.sheets as usize >= MOST_SHEETS {
             return Err(KioskFault::NoRoom);
         }
-        self.slip.clear();
-        self.matters = below.matters;
-        self.session = true;
+        self.session = Some(below.matters);
         Ok(Ticket::issue())
     }
 
@@ -116,9 +96,9 @@ impl<R: OpenRack> Kiosk<R> {
             yes: 0,
             no: 0,
         };
-        let Some(rule) = record.check(self.matters, below.sheets) else {
-            return Err(KioskFault::BadFact);
-        };
+        let rule = record
+            .check(below.matters, below.sheets)
+            .ok_or(KioskFault::BadFact)?;
         if let Some(i) = self.slip.find(matter) {
             self.slip.change(i, rule.sign);
             return Ok(());
@@ -146,8 +126,36 @@ impl<R: OpenRack> Kiosk<R> {
             });
         }
         ticket.spend();
-        self.slip.clear();
-        self.session = false;
+        self.close();
         Ok(())
+    }
+
+    // The shape of the rack, where no session is open on it. A slip that does not fit the rack counts as none, and goes.
+    fn idle(&mut self) -> Result<Shape, KioskFault>
+        ensures free { OnOk result (kiosk_seated R.Rack.meaning self.old ≡ false) }
+        ensures shape { IfOk result (λ s. s ≡ shaped (R.Rack.meaning self.old.rack)) }
+        ensures closed { OnOk result (self.new.session ≡ None) }
+        ensures empty { OnOk result (self.new.slip.facts.items ≡ []) }
+        ensures rack { self.new.rack ≡ self.old.rack }
+        ensures busy { OnErr result (kiosk_seated R.Rack.meaning self.old ≡ true) }
+        ensures fault { IfErr result (λ e. e ≡ SessionOpen) }
+        ensures kept { OnErr result (self.new ≡ self.old) }
+    {
+        let below = self.rack.shape();
+        if self.seated(below) {
+            return Err(KioskFault::SessionOpen);
+        }
+        self.close();
+        Ok(below)
+    }
+
+    // Leaves no session and an empty slip.
+    fn close(&mut self)
+        ensures session { self.new.session ≡ None }
+        ensures slip { self.new.slip.facts.items ≡ [] }
+        ensures rack { self.new.rack ≡ self.old.rack }
+    {
+        self.session = None;
+        self.slip.clear();
     }
 }
