@@ -4,7 +4,7 @@ use Rattle.std.specs.List.{range_with_len}
 use Rattle.rules.specs.declared.rule.Rule.{Rule}
 use Rattle.rules.specs.declared.rule.Shape.{Shape}
 use Rattle.racks.specs.Meaning.{Meaning, shaped}
-use Rattle.laying.specs.Laying.{Ground, ground}
+use Rattle.laying.specs.Laying.{Ground}
 use Rattle.kiosk.specs.declared.slip.Fact.{Fact}
 use Rattle.kiosk.specs.declared.kiosk.Kiosk.{Kiosk}
 use Rattle.kiosk.specs.Slip.{fact_rule}
@@ -44,8 +44,8 @@ kiosk_seated m k = seated (shaped (m k.rack)) k.session k.slip.facts.items
 abbrev pub slip_of : Bool → List Fact → Option (List Fact)
 slip_of b fs = cond b (Some fs) None
 
-abbrev pub book_of : {R : Type 0} → (R → Meaning) → (R → ℕ) → (R → ℕ) → Kiosk R → Book
-book_of m f p k = booked (ground (m k.rack) (f k.rack) (p k.rack)) (slip_of (kiosk_seated m k) k.slip.facts.items)
+abbrev pub book_of : {R : Type 0} → (R → Ground) → Kiosk R → Book
+book_of g k = booked (g k.rack) (slip_of (seated (shaped (g k.rack).meaning) k.session k.slip.facts.items) k.slip.facts.items)
 
 -- What a kiosk shows: the rack below, and in a session the slip as one more sheet on top
 

@@ -1,19 +1,15 @@
 use Rattle.std.proofs.Common.{Ok, Err}
 use Rattle.std.proofs.lemmas.Result.{err_from_is_err_and}
-use Rattle.laying.specs.Laying.{ground}
 use Rattle.kiosk.specs.declared.call.Call.TheVariants.{Begin}
 use Rattle.kiosk.specs.declared.fault.KioskFault.TheVariants.{Rack}
-use Rattle.kiosk.specs.Standing.{kiosk_seated}
-use Rattle.kiosk.specs.Steps.{passed_on, begin_steps}
+use Rattle.kiosk.specs.Steps.{kept_below, passed_on, begin_steps}
 use Rattle.kiosk.proofs.kiosk.Kiosk.begin.Goals as goal
 
 pub returns : goal.returns
 returns g c =
+    let st = g.R.OpenRack.state in
     let s = c.args.self.now in
     let i = c.idle.new.self in
     let e = c.begin.new.self in
-    let m = g.R.Rack.meaning in
-    let from = ground (m s.rack) (g.R.OpenRack.floor s.rack) (g.R.OpenRack.places s.rack) in
-    let to = ground (m e) (g.R.OpenRack.floor e) (g.R.OpenRack.places e) in
-    passed_on Begin from to (kiosk_seated m s) s.slip.facts.items i.session i.slip.facts.items (Ok tt) c.in_ok-idle.ensures.free c.in_ok-idle.ensures.closed
-    (begin_steps from to (g.met.R.Rack.kept s.rack) (Ok tt) (rw c.idle.ensures.rack at c.in_ok-begin.ensures))
+    passed_on Begin (st s.rack) (st e) _ s.slip.facts.items i.session i.slip.facts.items (Ok tt) c.in_ok-idle.ensures.free c.in_ok-idle.ensures.closed
+    (begin_steps (st s.rack) (st e) (kept_below (g.met.R.OpenRack.same_meaning s.rack) (g.met.R.Rack.kept s.rack)) (Ok tt) (rw c.idle.ensures.rack at c.in_ok-begin.ensures))
