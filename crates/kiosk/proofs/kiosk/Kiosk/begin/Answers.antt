@@ -1,7 +1,5 @@
-use Rattle.std.proofs.Common.{Ok, Err}
-use Rattle.std.proofs.lemmas.Result.{err_from_is_err_and}
+use Rattle.std.proofs.Common.{Ok}
 use Rattle.kiosk.specs.declared.call.Call.TheVariants.{Begin}
-use Rattle.kiosk.specs.declared.fault.KioskFault.TheVariants.{Rack}
 use Rattle.kiosk.specs.Steps.{kept_below, passed_on, begin_steps}
 use Rattle.kiosk.proofs.kiosk.Kiosk.begin.Goals as goal
 
