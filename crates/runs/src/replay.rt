@@ -89,10 +89,7 @@ fn set_up<R: OpenRack>(
         Ok(kiosk) => Ok(Run {
             kiosk,
             answers,
-            purse: Purse {
-                reserve,
-                session: None,
-            },
+            purse: Purse::new(reserve),
             places,
             lists,
         }),

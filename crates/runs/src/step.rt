@@ -1,4 +1,4 @@
-ghost use Rattle.std.specs.Prelude.{◌≡◌, ◌-◌, ◌<◌, ◌∷◌, [], ◌++◌, vec_len, vec_capacity};
+ghost use Rattle.std.specs.Prelude.{◌≡◌, ◌-◌, None, vec_len};
 ghost use Rattle.kiosk.specs.Book.{step, Does};
 ghost use Rattle.kiosk.specs.Standing.{book_of};
 ghost use Rattle.kiosk.specs.declared.call.Call.TheVariants.{Open as OpenCall, End as EndCall};
@@ -39,15 +39,15 @@ impl<R: OpenRack> Run<R> {
             Call::Lay(rule) => Answer::Done(kiosk.lay(rule)),
             Call::Withdraw => Answer::Done(kiosk.withdraw()),
             Call::Open => {
-                let opened = purse.open(&mut kiosk);
-                purse = opened.0;
-                Answer::Done(opened.1)
+                let (after, opened) = purse.open(&mut kiosk);
+                purse = after;
+                Answer::Done(opened)
             }
             Call::Fact(matter, sign) => Answer::Done(kiosk.fact(matter, sign)),
             Call::End => {
-                let ended = purse.end(&mut kiosk);
-                purse = ended.0;
-                Answer::Done(ended.1)
+                let (after, ended) = purse.end(&mut kiosk);
+                purse = after;
+                Answer::Done(ended)
             }
             Call::Outcomes => listed(&kiosk, order, lists.take_last()),
         };
@@ -63,6 +63,17 @@ impl<R: OpenRack> Run<R> {
 }
 
 impl Purse {
+    // The reserve alone.
+    pub(crate) fn new(reserve: Ticket) -> Purse
+        ensures reserve { result.reserve ≡ reserve }
+        ensures session { result.session ≡ None }
+    {
+        Purse {
+            reserve,
+            session: None,
+        }
+    }
+
     // Opens a session and keeps its ticket.
     fn open<R: OpenRack>(self, kiosk: &mut Kiosk<R>) -> (Purse, Result<(), KioskFault>)
         requires { Pursed (book_of R.OpenRack.state kiosk.old) self }
@@ -92,24 +103,12 @@ impl Purse {
         let Purse { reserve, session } = self;
         match session {
             Some(ticket) => match kiosk.end(ticket) {
-                Ok(()) => (
-                    Purse {
-                        reserve,
-                        session: None,
-                    },
-                    Ok(()),
-                ),
+                Ok(()) => (Purse::new(reserve), Ok(())),
                 Err(_) => unreachable!(),
             },
             None => match kiosk.end(reserve) {
                 Ok(()) => unreachable!(),
-                Err(Returned { fault, ticket }) => (
-                    Purse {
-                        reserve: ticket,
-                        session: None,
-                    },
-                    Err(fault),
-                ),
+                Err(Returned { fault, ticket }) => (Purse::new(ticket), Err(fault)),
             },
         }
     }
