@@ -35,23 +35,8 @@ noted_new (f ∷ fs) a s h =
     let e : nat_eq f.matter a ≡ false = ne_eqb f.matter a (λ q. h 0 (omega arith) q) in
     rw e (ap (λ (gs : List Fact). f ∷ gs) (noted_new fs a s (λ k l q. h (suc k) (omega arith) q)))
 
--- a change of sign keeps the matters
-pub matter_kept : (fs : List Fact) (i k : ℕ) (s : Sign) → (slice_index_or (re_signed fs i s) k no_fact).matter ≡ (slice_index_or fs k no_fact).matter
-matter_kept [] zero k s = refl
-matter_kept [] (suc i) k s = refl
-matter_kept (f ∷ fs) zero zero s = refl
-matter_kept (f ∷ fs) zero (suc k) s = refl
-matter_kept (f ∷ fs) (suc i) zero s = refl
-matter_kept (f ∷ fs) (suc i) (suc k) s = matter_kept fs i k s
-
 pub length_re_signed : (fs : List Fact) (i : ℕ) (s : Sign) → length (re_signed fs i s) ≡ length fs
 length_re_signed fs i s = length-set fs i _
-
-pub known_re_signed : (n : ℕ) (fs : List Fact) (i : ℕ) (s : Sign) → Known n fs → Known n (re_signed fs i s)
-known_re_signed n fs i s h k l = rw (matter_kept fs i k s) (h k (omega (arith, length_re_signed fs i s)))
-
-pub apart_re_signed : (fs : List Fact) (i : ℕ) (s : Sign) → Apart fs → Apart (re_signed fs i s)
-apart_re_signed fs i s h j k jk l q = h j k jk (omega (arith, length_re_signed fs i s)) (sym (matter_kept fs i j s) ∙ q ∙ matter_kept fs i k s)
 
 pub known_push : (n : ℕ) (fs : List Fact) (x : Fact) → Known n fs → x.matter < n → Known n (fs ++ (x ∷ []))
 known_push n fs x h lt k l =
