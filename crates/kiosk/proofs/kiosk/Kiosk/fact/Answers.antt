@@ -27,8 +27,8 @@ returns-in-Some g c =
     let h = subst (Checks below.matters below.sheets (fact_record a c.args.sign)) c.in_ok-rule.ensures.ok_part c.check.ensures in
     fact_found t a c.args.sign c.in_ok-rule.rule h c.in-Some.i c.in-Some.ensures c.change.new.self.facts.items c.change.ensures
 
-pub returns-then-below-len-ge-MOST_RULES : goal.returns-then-below-len-ge-MOST_RULES
-returns-then-below-len-ge-MOST_RULES g c =
+pub returns-then-from-len-ge-MOST_RULES : goal.returns-then-from-len-ge-MOST_RULES
+returns-then-from-len-ge-MOST_RULES g c =
     let s = c.args.self.now in
     let a = c.args.matter in
     let t = opened g.R.Rack.meaning g.R.OpenRack.state s (g.met.R.OpenRack.same_meaning s.rack) (g.met.R.Rack.kept s.rack) c.shape-below.ensures c.seated.ensures c.if-not-seated.false in
