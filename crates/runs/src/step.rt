@@ -17,7 +17,7 @@ use racks::rack::Rack;
 
 impl<R: OpenRack> Run<R> {
     // Makes one call. The run is handed on by value, since a ticket in hand cannot be let go, not even for another.
-    pub(crate) fn perform<O: Order>(self, call: Call, order: &O) -> (Run<R>, Answer)
+    pub(crate) fn perform<O: Order>(mut self, call: Call, order: &O) -> (Run<R>, Answer)
         requires purse { Pursed (book_of R.OpenRack.state self.kiosk) self.purse }
         requires stock { Stocked self.places (tally (asks call)) self.lists }
         ensures answer { Answers (O.Order.over order.now) self.places (book_of R.OpenRack.state self.kiosk) call result.1 }
@@ -27,38 +27,24 @@ impl<R: OpenRack> Run<R> {
         ensures answers { result.0.answers ≡ self.answers }
         ensures places { result.0.places ≡ self.places }
     {
-        let Run {
-            mut kiosk,
-            answers,
-            mut purse,
-            places,
-            mut lists,
-        } = self;
         let answer = match call {
-            Call::Begin => Answer::Done(kiosk.begin()),
-            Call::Lay(rule) => Answer::Done(kiosk.lay(rule)),
-            Call::Withdraw => Answer::Done(kiosk.withdraw()),
+            Call::Begin => Answer::Done(self.kiosk.begin()),
+            Call::Lay(rule) => Answer::Done(self.kiosk.lay(rule)),
+            Call::Withdraw => Answer::Done(self.kiosk.withdraw()),
             Call::Open => {
-                let (after, opened) = purse.open(&mut kiosk);
-                purse = after;
+                let (purse, opened) = self.purse.open(&mut self.kiosk);
+                self.purse = purse;
                 Answer::Done(opened)
             }
-            Call::Fact(matter, sign) => Answer::Done(kiosk.fact(matter, sign)),
+            Call::Fact(matter, sign) => Answer::Done(self.kiosk.fact(matter, sign)),
             Call::End => {
-                let (after, ended) = purse.end(&mut kiosk);
-                purse = after;
+                let (purse, ended) = self.purse.end(&mut self.kiosk);
+                self.purse = purse;
                 Answer::Done(ended)
             }
-            Call::Outcomes => listed(&kiosk, order, lists.take_last()),
+            Call::Outcomes => listed(&self.kiosk, order, self.lists.take_last()),
         };
-        let run = Run {
-            kiosk,
-            answers,
-            purse,
-            places,
-            lists,
-        };
-        (run, answer)
+        (self, answer)
     }
 }
 
@@ -90,11 +76,12 @@ impl Purse {
                 Ok(()),
             ),
             (Err(fault), session) => (Purse { reserve, session }, Err(fault)),
+            // With a session's ticket in hand a session is open, and opening one more is refused.
             (Ok(_), Some(_)) => unreachable!(),
         }
     }
 
-    // Hands in the session's ticket, or else the reserve, which then comes back.
+    // Hands in the session's ticket, or else the reserve, which then comes back: no session is open for it to end.
     fn end<R: OpenRack>(self, kiosk: &mut Kiosk<R>) -> (Purse, Result<(), KioskFault>)
         requires { Pursed (book_of R.OpenRack.state kiosk.old) self }
         ensures book { Does (step (book_of R.OpenRack.state kiosk.old) EndCall) result.1 (book_of R.OpenRack.state kiosk.new) }

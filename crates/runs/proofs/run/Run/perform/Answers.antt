@@ -32,13 +32,13 @@ returns-clause-purse g c =
     let b = book_of g.R.OpenRack.state c.args.self.kiosk in
     let h = c.requires.purse in
     elim c.match-call.branch [
-      | in-Begin w ↦ rw (w.kiosk-is, w.purse-is) (purse_kept p b _ Begin (begin_keeps b) w.begin.ensures.1 h)
-      | in-Lay w ↦ rw (w.kiosk-is, w.purse-is) (purse_kept p b _ (Lay w.in-Lay.rule) (lay_keeps b w.in-Lay.rule) w.lay.ensures.1 h)
-      | in-Withdraw w ↦ rw (w.kiosk-is, w.purse-is) (purse_kept p b _ Withdraw (withdraw_keeps b) w.withdraw.ensures.1 h)
-      | in-Open w ↦ rw (w.kiosk-is, w.purse-is) w.open-opened.ensures.purse
-      | in-Fact w ↦ rw (w.kiosk-is, w.purse-is) (purse_kept p b _ (Fact w.in-Fact.matter w.in-Fact.sign) (fact_keeps b w.in-Fact.matter w.in-Fact.sign) w.fact.ensures.1 h)
-      | in-End w ↦ rw (w.kiosk-is, w.purse-is) w.end-ended.ensures.purse
-      | in-Outcomes w ↦ rw (w.kiosk-is, w.purse-is) h
+      | in-Begin w ↦ rw w.self-is (purse_kept p b _ Begin (begin_keeps b) w.begin.ensures.1 h)
+      | in-Lay w ↦ rw w.self-is (purse_kept p b _ (Lay w.in-Lay.rule) (lay_keeps b w.in-Lay.rule) w.lay.ensures.1 h)
+      | in-Withdraw w ↦ rw w.self-is (purse_kept p b _ Withdraw (withdraw_keeps b) w.withdraw.ensures.1 h)
+      | in-Open w ↦ rw w.self-is w.open-opened.ensures.purse
+      | in-Fact w ↦ rw w.self-is (purse_kept p b _ (Fact w.in-Fact.matter w.in-Fact.sign) (fact_keeps b w.in-Fact.matter w.in-Fact.sign) w.fact.ensures.1 h)
+      | in-End w ↦ rw w.self-is w.end-ended.ensures.purse
+      | in-Outcomes w ↦ rw w.self-is h
     ]
 
 pub returns-clause-stock : goal.returns-clause-stock
@@ -47,11 +47,11 @@ returns-clause-stock g c =
     let n = tally (asks c.args.call) in
     let kept = stock_kept s.places n n s.lists c.requires.stock in
     elim c.match-call.branch [
-      | in-Begin w ↦ rw w.lists-is kept
-      | in-Lay w ↦ rw w.lists-is kept
-      | in-Withdraw w ↦ rw w.lists-is kept
-      | in-Open w ↦ rw w.lists-is kept
-      | in-Fact w ↦ rw w.lists-is kept
-      | in-End w ↦ rw w.lists-is kept
-      | in-Outcomes w ↦ rw w.lists-is (stock_taken s.places n s.lists w.take_last.new.self w.take_last.result w.take_last.ensures.items w.take_last.ensures.len (ap (λ (x : Call). tally (asks x)) w.in-Outcomes.is) c.requires.stock).1
+      | in-Begin w ↦ rw w.self-is kept
+      | in-Lay w ↦ rw w.self-is kept
+      | in-Withdraw w ↦ rw w.self-is kept
+      | in-Open w ↦ rw w.self-is kept
+      | in-Fact w ↦ rw w.self-is kept
+      | in-End w ↦ rw w.self-is kept
+      | in-Outcomes w ↦ rw w.self-is (stock_taken s.places n s.lists w.take_last.new.self w.take_last.result w.take_last.ensures.items w.take_last.ensures.len (ap (λ (x : Call). tally (asks x)) w.in-Outcomes.is) c.requires.stock).1
     ]
