@@ -22,6 +22,7 @@ impl Refusal for KioskFault {
 
     ghost layered = { kiosk_layer };
 
+    // By hand: a variant that holds a rack's refusal keeps the enum from having numbers of its own.
     fn number(self) -> u8 {
         match self {
             KioskFault::SessionOpen => 21,

@@ -97,7 +97,7 @@ fn set_up<R: OpenRack>(
     }
 }
 
-// Room for the answers to the calls, and the blank lists that they need.
+// Room for the answers to the calls, and the blank lists that they need: made at once, so that no call can fail for want of memory.
 fn room(
     heap: Global,
     calls: &[Call],
