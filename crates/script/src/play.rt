@@ -14,7 +14,7 @@ use orders::position::Position;
 use racks::rack::Rack;
 use report::report::write_report;
 use runs::replay::replay;
-use runs::run::{Run, Start};
+use runs::run::{Purse, Run, Start};
 use std::alloc::{AllocError, Global};
 
 // Places of a list, and bytes of a report.
@@ -91,28 +91,27 @@ fn say<R: OpenRack>(heap: Global, run: &Run<R>, wanted: Wanted) -> Result<String
 
 // Hands every ticket in: an open session's at its own kiosk, and the reserve where it came from.
 fn close<R: OpenRack + Drop, S: OpenRack + Drop>(run: Run<R>, mut home: Kiosk<S>)
-    requires purse { Pursed (book_of R.Rack.meaning R.OpenRack.floor R.OpenRack.places run.kiosk) run.tickets }
-    requires open { in_session (book_of S.Rack.meaning S.OpenRack.floor S.OpenRack.places home).slip ≡ true }
+    requires purse { Pursed (book_of R.OpenRack.state run.kiosk) run.purse }
+    requires open { in_session (book_of S.OpenRack.state home).slip ≡ true }
 {
     let Run {
         mut kiosk,
         answers: _,
-        mut tickets,
+        purse: Purse { reserve, session },
         places: _,
         lists: _,
     } = run;
-    if tickets.len() > 1 {
-        end_session(&mut kiosk, tickets.take_last());
+    if let Some(ticket) = session {
+        end_session(&mut kiosk, ticket);
     }
-    end_session(&mut home, tickets.take_last());
-    tickets.destroy_empty();
+    end_session(&mut home, reserve);
     let _ = kiosk.into_rack();
     let _ = home.into_rack();
 }
 
 // Ends the session that is open here.
 fn end_session<R: OpenRack>(kiosk: &mut Kiosk<R>, ticket: Ticket)
-    requires { in_session (book_of R.Rack.meaning R.OpenRack.floor R.OpenRack.places kiosk.old).slip ≡ true }
+    requires { in_session (book_of R.OpenRack.state kiosk.old).slip ≡ true }
 {
     match kiosk.end(ticket) {
         Ok(()) => (),
