@@ -19,12 +19,6 @@ pub fn closure(rules: &[Rule], defaults: u16) -> LiteralSet
     }
 }
 
-pub fn same(x: LiteralSet, y: LiteralSet) -> bool
-    ensures { Decides result (x ≡ y) }
-{
-    x == y
-}
-
 // `y` with the heads of the rules whose body is true in `y`.
 fn round(rules: &[Rule], y: LiteralSet) -> LiteralSet
     requires { Formed 16 rules.now }

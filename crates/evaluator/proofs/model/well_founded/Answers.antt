@@ -3,10 +3,10 @@ use Rattle.evaluator.proofs.Readiness.{read_ready, read_as}
 use Rattle.evaluator.proofs.model.well_founded.Goals as goal
 
 pub settle-requires : goal.settle-requires
-settle-requires g c = (
-  read_ready (g.met.R.Rack.kept c.args.rack.now) c.shape.ensures c.as_slice.ensures c.read-table.ensures,
-  (g.O.Order.over c.args.order.now, record { broad = c.of.ensures.broad; narrow = c.of.ensures.narrow }),
-)
+settle-requires g c = record {
+  ready = read_ready (g.met.R.Rack.kept c.args.rack.now) c.shape.ensures c.as_slice.ensures c.read-table.ensures;
+  ruled = (g.O.Order.over c.args.order.now, record { broad = c.of.ensures.broad; narrow = c.of.ensures.narrow });
+}
 
 pub returns : goal.returns
 returns g c =

@@ -8,10 +8,10 @@ use Rattle.evaluator.proofs.Readiness.{read_ready}
 use Rattle.evaluator.proofs.finder.Finder.new.Goals as goal
 
 pub settle-requires : goal.settle-requires
-settle-requires g c = (
-  read_ready (g.met.R.Rack.kept c.args.rack.now) c.shape-matters.ensures c.as_slice.ensures c.read-table.ensures,
-  (g.O.Order.over c.args.order.now, record { broad = c.of-overrulers.ensures.broad; narrow = c.of-overrulers.ensures.narrow }),
-)
+settle-requires g c = record {
+  ready = read_ready (g.met.R.Rack.kept c.args.rack.now) c.shape-matters.ensures c.as_slice.ensures c.read-table.ensures;
+  ruled = (g.O.Order.over c.args.order.now, record { broad = c.of-overrulers.ensures.broad; narrow = c.of-overrulers.ensures.narrow });
+}
 
 pub invariant_of-candidates-clause-ready : goal.invariant_of-candidates-clause-ready
 invariant_of-candidates-clause-ready g c = read_ready (g.met.R.Rack.kept c.args.rack.now) c.shape-matters.ensures refl c.read-table.ensures
