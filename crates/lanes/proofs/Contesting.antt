@@ -1,6 +1,8 @@
 -- What a contest says of the rules about a matter.
 use Rattle.std.proofs.Common.{◌≡◌, ℕ, ◌-◌, ◌^◌, ◌<◌, true, List, get_or, sym, refl, ap, ◌∙◌, subst, inl, inr, ⊎_elim, arith}
 use lib.Bits.{bit_and, bit_or}
+use Rattle.std.proofs.lemmas.Bool.{cases_lt}
+use Rattle.std.proofs.lemmas.List.{get_or_past}
 use Rattle.rules.specs.declared.rule.Rule.{Rule}
 use Rattle.rules.specs.declared.rule.Sign.{Sign}
 use Rattle.rules.specs.declared.rule.Sign.TheVariants.{Yes, No}
@@ -12,7 +14,7 @@ use Rattle.steps.specs.Parts.{SetOf, Tabled, Members}
 use Rattle.steps.proofs.SetOfs.{set_same}
 use Rattle.lanes.specs.declared.contest.Contest.{Contest}
 use Rattle.lanes.specs.Claiming.{Asserts, Among}
-use Rattle.lanes.specs.Contesting.{side, Contested, Fair, Unrejected, About}
+use Rattle.lanes.specs.Contesting.{side, Contested, Unrejected, About}
 use Rattle.lanes.specs.Settling.{Backed, Stands}
 use Rattle.lanes.specs.Founding.{Live}
 use Rattle.lanes.proofs.LaneSets.{set_own, set_or, set_and, set_not}
@@ -84,21 +86,22 @@ module _ (Q rs : List Rule) (over : Overruling) (table : List ℕ) (X : ℕ → 
       full : (j : ℕ) → j < 32 → Mem j (2 ^ 32 - 1)
       full j h = rest_mem 32 0 j (omega arith) h (λ z. not_in_zero j z)
 
-  pub default_to : (n l : ℕ) → Fair c → Default Q n (X l) a → Among c.yes (2 ^ 32 - 1) l → ⊥
-  default_to n l fair d w =
-      let k = (fair.each Yes).low w.0 ((fair.each Yes).noted w.0 l w.2) in
+  pub default_to : (n l : ℕ) → Default Q n (X l) a → Among c.yes (2 ^ 32 - 1) l → ⊥
+  default_to n l d w =
+      let e = c.yes.whole in
+      let k : w.0 < 32 = ⊎_elim (λ b. b) (λ b. absurd (not_in_zero l (subst (Mem l) (get_or_past c.yes.lanes w.0 0 (omega arith)) w.2))) (cases_lt w.0 32) in
       let t = claimant Yes l w.0 k w.2 in
       let q = about.only t.0 t.1 in
       d.unaffirmed t.0 q.0 (record { sign_is = t.2.sign_is; head_is = q.1; body_true = t.2.body_true })
 
   -- the lanes in which the matter stands
-  pub stands_lanes : (n y m held denied unclaimed : ℕ) → Fair c → a < n
+  pub stands_lanes : (n y m held denied unclaimed : ℕ) → a < n
       → SetOf y (λ l. (l < 64) × Holds (X l) Yes a) → SetOf m (λ l. (l < 64) × Holds (X l) No a)
       → SetOf held (λ l. (j : ℕ) × (j < 32) × ((l < 64) × Unrejected table c Yes l j))
       → SetOf denied (λ l. (j : ℕ) × (j < 32) × ((l < 64) × Unrejected table c No l j))
       → SetOf unclaimed (λ l. (l < 64) × (Among c.yes (2 ^ 32 - 1) l → ⊥))
       → SetOf (bit_or (bit_and y held) (bit_and m (bit_or denied unclaimed))) (λ l. (l < 64) × Stands Q over n (X l) a)
-  stands_lanes n y m held denied unclaimed fair below ys ms hs ds us = set_same
+  stands_lanes n y m held denied unclaimed below ys ms hs ds us = set_same
       (λ l. ⊎_elim
       (λ w. let u = w.1 in (w.0.0, inl (w.0.1, backed Yes l u.0 w.0.0 u.1 u.2.1)))
       (λ w. (
@@ -117,7 +120,7 @@ module _ (Q rs : List Rule) (over : Overruling) (table : List ℕ) (X : ℕ → 
         (w.0, v.0),
         ⊎_elim
             (λ b. inl (b.backer.sheet, backer_low No l b, (w.0, unrejected No l w.0 b)))
-            (λ d. inr (w.0, default_to n l fair d))
+            (λ d. inr (w.0, default_to n l d))
             v.1,
       ))
       w.1)
@@ -133,8 +136,8 @@ module _ (Q rs : List Rule) (over : Overruling) (table : List ℕ) (X : ℕ → 
       (set_and bs (set_not small vs))
 
   -- the lanes in which the matter is a default
-  pub default_lanes : (n w v : ℕ) → Fair c → a < n → w < 2 ^ 64 → SetOf v (λ l. (l < 64) × (Among c.yes (2 ^ 32 - 1) l → ⊥)) → SetOf (bit_and w v) (λ l. Mem l w × Default Q n (X l) a)
-  default_lanes n w v fair below small s = set_same
+  pub default_lanes : (n w v : ℕ) → a < n → w < 2 ^ 64 → SetOf v (λ l. (l < 64) × (Among c.yes (2 ^ 32 - 1) l → ⊥)) → SetOf (bit_and w v) (λ l. Mem l w × Default Q n (X l) a)
+  default_lanes n w v below small s = set_same
       (λ l h. (h.0, default_from n l h.1.0 below h.1.1))
-      (λ l h. (h.0, (mem_below 64 w l small h.0, default_to n l fair h.1)))
+      (λ l h. (h.0, (mem_below 64 w l small h.0, default_to n l h.1)))
       (set_and (set_own w) s)

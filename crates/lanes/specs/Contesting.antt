@@ -6,7 +6,7 @@ use Rattle.rules.specs.declared.rule.Sign.TheVariants.{Yes, No}
 use Rattle.rules.specs.Semantics.{Mem, LiteralSet, ◌∈◌, opposite}
 use Rattle.lanes.specs.declared.claimants.Claimants.{Claimants}
 use Rattle.lanes.specs.declared.contest.Contest.{Contest}
-use Rattle.lanes.specs.Claiming.{Gathered, Noted, Among}
+use Rattle.lanes.specs.Claiming.{Gathered, Among}
 
 abbrev pub side : Sign → Contest → Claimants
 side Yes c = c.yes
@@ -14,9 +14,6 @@ side No c = c.no
 
 pub record Contested (rs : List Rule) (X : ℕ → LiteralSet) (c : Contest) : Type 0 where
   pub each : (s : Sign) → Gathered rs (length rs) X s (side s c)
-
-pub record Fair (c : Contest) : Type 0 where
-  pub each : (s : Sign) → Noted (side s c)
 
 -- a sheet claims the literal in the lane, and no sheet that overrules it, by this table, claims the opposite
 pub record Unrejected (table : List ℕ) (c : Contest) (s : Sign) (l j : ℕ) : Type 0 where

@@ -1,4 +1,5 @@
-ghost use Rattle.std.specs.Prelude.{◌≡◌, length};
+ghost use Rattle.std.specs.Prelude.{◌≡◌, ℕ, length, slice_index};
+ghost use Rattle.rules.specs.Semantics.{Mem};
 
 use rules::table::MOST_SHEETS;
 
@@ -10,4 +11,5 @@ pub struct Claimants {
     pub sheets: u32,
     pub lanes: [u64; MOST_SHEETS],
     ghost whole: { length lanes ≡ 32 },
+    ghost noted: { (j l : ℕ) → Mem l (slice_index lanes j) → Mem j sheets },
 }

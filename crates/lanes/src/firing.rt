@@ -26,7 +26,7 @@ pub struct Firings {
 }
 
 // For each matter the lanes in which its literal is reached.
-#[derive(Clone, Copy)]
+#[derive(Clone, Copy, PartialEq)]
 pub struct Reach {
     pub words: [u64; MOST_MATTERS],
     ghost whole: { length words ≡ 16 },

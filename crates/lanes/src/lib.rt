@@ -6,5 +6,6 @@ mod claimants;
 mod contest;
 pub mod docket;
 mod firing;
+mod members;
 pub mod trial;
 mod words;

@@ -6,7 +6,8 @@ ghost use Rattle.lanes.specs.Sides.{Takes, PutAs};
 
 use crate::block::Block;
 use crate::block::side::{Side, side_of_bit};
-use rules::matters::{MOST_MATTERS, has_matter};
+use rules::matters::MOST_MATTERS;
+use rules::sets::has;
 
 impl Block {
     // Sixty-four candidates: the yes matters, each time with the part of the undecided ones that has the next number.
@@ -18,7 +19,7 @@ impl Block {
         let mut rank = 0;
         for a in 0..matters {
             block.put(a, side_of(yes, undecided, first, a, rank));
-            if has_matter(undecided, a) {
+            if has(undecided.into(), a) {
                 rank += 1;
             }
         }
@@ -66,9 +67,9 @@ fn side_of(yes: u16, undecided: u16, first: u32, a: u8, rank: u8) -> Side
     requires { (a < 16) × ((rank ≡ rank_of undecided a) × ((first % 64 ≡ 0) × ((Mem a yes → Mem a undecided → ⊥)))) }
     ensures { Takes result (λ l. Mem a (bit_or yes (part 16 undecided (first + l)))) }
 {
-    if has_matter(undecided, a) {
+    if has(undecided.into(), a) {
         side_of_bit(rank, first)
-    } else if has_matter(yes, a) {
+    } else if has(yes.into(), a) {
         Side::In
     } else {
         Side::Out

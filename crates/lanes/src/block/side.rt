@@ -2,6 +2,8 @@ ghost use Rattle.std.specs.Prelude.{◌≡◌, ◌+◌, ◌%◌, ◌<◌};
 ghost use Rattle.rules.specs.Semantics.{Mem};
 ghost use Rattle.lanes.specs.Sides.{Takes};
 
+use rules::sets::has;
+
 // Which lanes hold a matter: all, none, or these.
 #[derive(Clone, Copy)]
 pub enum Side {
@@ -27,7 +29,7 @@ pub fn side_of_bit(bit: u8, first: u32) -> Side
 {
     if bit < 6 {
         Side::Varying(LANES_WITH_BIT[bit as usize])
-    } else if (first >> bit) % 2 == 1 {
+    } else if has(first.into(), bit) {
         Side::In
     } else {
         Side::Out

@@ -4,12 +4,13 @@ ghost use Rattle.rules.specs.Semantics.{Mem, LiteralSet as Literals, ◌∈◌, 
 ghost use Rattle.steps.specs.Parts.{SetOf, Tabled, Members};
 ghost use Rattle.lanes.specs.Blocks.{Has};
 ghost use Rattle.lanes.specs.Claiming.{Among};
-ghost use Rattle.lanes.specs.Contesting.{side, Contested, Fair, Unrejected, About};
+ghost use Rattle.lanes.specs.Contesting.{side, Contested, Unrejected, About};
 ghost use Rattle.lanes.specs.Settling.{Stands};
 
 use crate::block::Block;
 use crate::claimants::Claimants;
 use crate::contest::Contest;
+use crate::members::members_of;
 use rules::rule::{Rule, Sign};
 use rules::table::MOST_SHEETS;
 
@@ -17,8 +18,7 @@ impl Contest {
     // The contest about a matter, by the rules about it.
     pub fn among(rules: &[Rule], block: &Block) -> Contest
         requires { (r : SomeRule) → r ∈ rules.now → r.sheet < 32 }
-        ensures contested { (X : ℕ → Literals) → Has X block.now → Contested rules.now X result }
-        ensures fair { Fair result }
+        ensures { (X : ℕ → Literals) → Has X block.now → Contested rules.now X result }
     {
         let yes = Claimants::of(rules, Sign::Yes, block);
         let no = Claimants::of(rules, Sign::No, block);
@@ -27,18 +27,13 @@ impl Contest {
 
     // The lanes in which a sheet of the set claims the opposite of the literal.
     pub fn against(&self, sign: Sign, set: u32) -> u64
-        requires { Fair self.now }
         ensures { SetOf result (Among (side (opposite sign) self.now) set) }
     {
-        match sign {
-            Sign::Yes => self.no.among(set),
-            Sign::No => self.yes.among(set),
-        }
+        self.side(sign.opposite()).among(set)
     }
 
     // The lanes in which nobody claims the matter.
     pub fn unclaimed(&self) -> u64
-        requires { Fair self.now }
         ensures { SetOf result (λ l. (l < 64) × (Among self.now.yes 4294967295 l → ⊥)) }
     {
         !self.yes.among(u32::MAX)
@@ -55,31 +50,24 @@ impl Contest {
 
     // The lanes in which a claim to the literal is not rejected.
     fn unrejected(&self, sign: Sign, overrulers: &[u32; MOST_SHEETS]) -> u64
-        requires { Fair self.now }
         ensures { SetOf result (λ l. (j : ℕ) × (j < 32) × ((l < 64) × Unrejected overrulers.now self.now sign l j)) }
     {
-        let sheets = self.side(sign).sheets;
-        let mut lanes = 0;
-        let mut rest = sheets;
-        while rest != 0 {
-            let sheet = rest.trailing_zeros() as usize;
-            lanes |= self.unopposed(sign, sheet, overrulers[sheet]);
-            rest &= rest - 1;
-        }
-        lanes
+        members_of(self.side(sign).sheets).fold(0, move |lanes, sheet| {
+            lanes | self.unopposed(sign, sheet, overrulers)
+        })
     }
 
-    // The lanes in which this sheet claims the literal, and none of the set the opposite.
-    fn unopposed(&self, sign: Sign, sheet: usize, set: u32) -> u64
-        requires { (Fair self.now) × (sheet < 32) }
-        ensures { SetOf result (λ l. (l < 64) × Mem l (slice_index (side sign self.now).lanes sheet) × (Among (side (opposite sign) self.now) set l → ⊥)) }
+    // The lanes in which this sheet claims the literal, and none of those that overrule it the opposite.
+    fn unopposed(&self, sign: Sign, sheet: usize, overrulers: &[u32; MOST_SHEETS]) -> u64
+        requires { sheet < 32 }
+        ensures { SetOf result (λ l. (l < 64) × Unrejected overrulers.now self.now sign l sheet) }
     {
-        self.side(sign).lanes[sheet] & !self.against(sign, set)
+        self.side(sign).lanes[sheet] & !self.against(sign, overrulers[sheet])
     }
 
     // The lanes whose set takes the side on the matter that the rules about it leave.
     pub fn settled(&self, matter: u8, block: &Block, overrulers: &[u32; MOST_SHEETS]) -> u64
-        requires { (Fair self.now) × (matter < 16) }
+        requires { matter < 16 }
         ensures { (Q rs : List SomeRule) (over : Overruling) (n : ℕ) (X : ℕ → Literals) → Has X block.now → Tabled over overrulers.now → Members rs (About Q matter) → ((q : SomeRule) → q ∈ rs → q.sheet < 32) → Contested rs X self.now → matter < n → SetOf result (λ l. (l < 64) × Stands Q over n (X l) matter) }
     {
         let held = self.unrejected(Sign::Yes, overrulers);

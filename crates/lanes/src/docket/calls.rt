@@ -5,6 +5,7 @@ ghost use Rattle.lanes.specs.Docketing.{about as rule_about, group, Docketed};
 
 use crate::docket::{Docket, STARTS};
 use rules::rule::{Rule, Sign};
+use rules::sets::has;
 use rules::table::Table;
 
 impl Docket {
@@ -73,7 +74,7 @@ fn is_tautology(r: Rule) -> bool
     ensures { result ≡ holds (body r) r.sign r.head }
 {
     match r.sign {
-        Sign::Yes => (r.yes >> r.head) % 2 == 1,
-        Sign::No => (r.no >> r.head) % 2 == 1,
+        Sign::Yes => has(r.yes.into(), r.head),
+        Sign::No => has(r.no.into(), r.head),
     }
 }

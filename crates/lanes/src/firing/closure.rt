@@ -1,4 +1,4 @@
-ghost use Rattle.std.specs.Prelude.{◌≡◌, ◌<◌, replicate, Decides};
+ghost use Rattle.std.specs.Prelude.{◌≡◌, ◌<◌, replicate};
 ghost use Rattle.lanes.specs.Firing.{Rounded, Reached, Low, Fired};
 
 use crate::firing::{Firing, Firings, Reach};
@@ -14,7 +14,7 @@ impl Firings {
         let mut reach = Reach::nothing();
         'grow: loop {
             let more = self.round(reach);
-            if more.same(reach) {
+            if more == reach {
                 break 'grow reach;
             }
             reach = more;
@@ -51,11 +51,5 @@ impl Reach {
         let Reach { mut words } = self;
         words[firing.head as usize] |= firing.lanes & met;
         Reach { words }
-    }
-
-    fn same(self, other: Reach) -> bool
-        ensures { Decides result (self.words ≡ other.words) }
-    {
-        self.words == other.words
     }
 }

@@ -3,7 +3,7 @@ ghost use Rattle.rules.specs.declared.rule.Rule.{Rule as SomeRule};
 ghost use Rattle.rules.specs.Semantics.{LiteralSet as Literals, ◌∈◌, Overruling};
 ghost use Rattle.steps.specs.Parts.{SetOf, Tabled, Members};
 ghost use Rattle.lanes.specs.Blocks.{Has};
-ghost use Rattle.lanes.specs.Contesting.{Contested, Fair, About};
+ghost use Rattle.lanes.specs.Contesting.{Contested, About};
 ghost use Rattle.lanes.specs.Founding.{Live, HoldingTo};
 
 use crate::block::Block;
@@ -48,7 +48,7 @@ impl Firings {
 impl Contest {
     // The lanes in which the rule is true and not rejected.
     pub fn live(&self, r: Rule, block: &Block, overrulers: &[u32; MOST_SHEETS]) -> u64
-        requires { (Fair self.now) × (r.sheet < 32) }
+        requires { r.sheet < 32 }
         ensures { (Q rs : List SomeRule) (over : Overruling) (X : ℕ → Literals) (a : ℕ) → Has X block.now → Tabled over overrulers.now → Members rs (About Q a) → ((q : SomeRule) → q ∈ rs → q.sheet < 32) → Contested rs X self.now → r ∈ rs → SetOf result (λ l. (l < 64) × Live Q over (X l) r) }
     {
         block.body_true(r) & !self.against(r.sign, overrulers[r.sheet as usize])

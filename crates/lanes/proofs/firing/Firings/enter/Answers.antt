@@ -23,7 +23,7 @@ pub loop-r-init : goal.loop-r-init
 loop-r-init c = (omega arith, λ Q over n X has t low about b h. h)
 
 pub live-requires : goal.live-requires
-live-requires c = (c.among-contest.ensures.fair, c.requires.1.1 _ (placed _ _ _ c.loop-r-test.true))
+live-requires c = c.requires.1.1 _ (placed _ _ _ c.loop-r-test.true)
 
 pub push-requires-then-live-ne0 : goal.push-requires-then-live-ne0
 push-requires-then-live-ne0 c = let r = c.requires.0 in let e = c.push.ensures.1 in let l = c.loop-r.invariant.0 in let t = c.loop-r-test.true in omega arith
@@ -34,7 +34,7 @@ loop-r-preserved c =
     let live : (Q : List Rule) (over : Overruling) (n : ℕ) (X : ℕ → LiteralSet) → Has X c.args.block.now → Tabled over c.args.overrulers.now → Members c.args.rules.now (About Q c.args.matter)
     → SetOf (bit_and c.args.lanes c.live.result) (λ l. Mem l c.args.lanes × Live Q over (X l) (get_or c.args.rules.now i no_rule)) =
     λ Q over n X has t about. set_same (λ l w. (w.0, w.1.1)) (λ l w. (w.0, (Rattle.rules.proofs.Bitwise.mem_below 64 c.args.lanes l (omega arith) w.0, w.1)))
-    (set_and (set_own c.args.lanes) (c.live.ensures Q c.args.rules.now over X c.args.matter has t about c.requires.1.1 (c.among-contest.ensures.contested X has) (placed _ _ _ c.loop-r-test.true))) in
+    (set_and (set_own c.args.lanes) (c.live.ensures Q c.args.rules.now over X c.args.matter has t about c.requires.1.1 (c.among-contest.ensures X has) (placed _ _ _ c.loop-r-test.true))) in
     let Kept : Firings → Type 0 = λ f.
     (f.len ≤ c.push.new.self.len + (i + 1))
     × ((Q : List Rule) (over : Overruling) (n : ℕ) (X : ℕ → LiteralSet) → Has X c.args.block.now → Tabled over c.args.overrulers.now → (low : c.args.matter < 16) → (about : Members c.args.rules.now (About Q c.args.matter)) → c.args.matter < n
@@ -61,5 +61,5 @@ returns c = record {
       enter_end Q over n X c.args.lanes c.args.rules.now c.args.matter c.requires.1.0 about c.loop-r.r-index _ c.loop-r-test.false
       (c.loop-r.invariant.1 Q over n X has t c.requires.1.0 about b
       (enter_default Q over n X c.args.lanes c.args.rules.now c.args.matter c.requires.1.0 about c.args.self.now _ _ (let r = c.requires.0 in omega arith) c.push.ensures.0 c.push.ensures.1
-      (default_lanes Q c.args.rules.now over c.args.overrulers.now X c.args.matter c.among-contest.result about c.requires.1.1 t (c.among-contest.ensures.contested X has) n c.args.lanes _ c.among-contest.ensures.fair b (omega arith) c.unclaimed.ensures) h));
+      (default_lanes Q c.args.rules.now over c.args.overrulers.now X c.args.matter c.among-contest.result about c.requires.1.1 t (c.among-contest.ensures X has) n c.args.lanes _ b (omega arith) c.unclaimed.ensures) h));
 }

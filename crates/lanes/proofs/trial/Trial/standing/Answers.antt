@@ -12,4 +12,4 @@ returns c = λ P over X sound has tabled below.
     c.settled.ensures _ c.about.result.now over _ X has tabled
     (group_about P c.args.self.now sound c.args.matter _ c.requires.1 c.about.ensures)
     (group_low P c.args.self.now sound c.args.matter _ c.requires.1 c.about.ensures)
-    (c.among-contest.ensures.contested X has) below
+    (c.among-contest.ensures X has) below
