@@ -2,6 +2,7 @@ ghost use Rattle.std.specs.Prelude.{ℕ, ◌+◌, ◌<◌, ◌≤◌, List, leng
 ghost use Rattle.rules.specs.declared.rule.Rule.{Rule as SomeRule};
 ghost use Rattle.rules.specs.Semantics.{LiteralSet as Literals, ◌∈◌, Overruling};
 ghost use Rattle.steps.specs.Parts.{SetOf, Tabled, Members};
+ghost use Rattle.arrayvec.specs.ArrayVec.{array_vec_len};
 ghost use Rattle.lanes.specs.Blocks.{Has};
 ghost use Rattle.lanes.specs.Contesting.{Contested, About};
 ghost use Rattle.lanes.specs.Founding.{Live, HoldingTo};
@@ -22,9 +23,11 @@ impl Firings {
         overrulers: &[u32; MOST_SHEETS],
         lanes: u64,
     )
-        requires { (self.old.len + length rules.now < 272) × ((matter < 16) × (((r : SomeRule) → r ∈ rules.now → r.sheet < 32))) }
-        ensures few { self.new.len ≤ self.old.len + length rules.now + 1 }
-        ensures holds { (Q : List SomeRule) (over : Overruling) (n : ℕ) (X : ℕ → Literals) → Has X block.now → Tabled over overrulers.now → Members rules.now (About Q matter) → matter < n → HoldingTo Q over n X lanes matter self.old → HoldingTo Q over n X lanes (matter + 1) self.new }
+        requires room { array_vec_len self.old.items + length rules.now < 272 }
+        requires matter { matter < 16 }
+        requires sheets { (r : SomeRule) → r ∈ rules.now → r.sheet < 32 }
+        ensures few { array_vec_len self.new.items ≤ array_vec_len self.old.items + length rules.now + 1 }
+        ensures holds { (Q : List SomeRule) (over : Overruling) (n : ℕ) (X : ℕ → Literals) → Has X block.now → Tabled over overrulers.now → Members rules.now (About Q matter) → matter < n → HoldingTo Q over n X lanes matter self.old.items.items → HoldingTo Q over n X lanes (matter + 1) self.new.items.items }
     {
         let contest = Contest::among(rules, block);
         self.push(Firing {

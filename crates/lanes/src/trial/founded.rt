@@ -14,7 +14,7 @@ use crate::words::all_of;
 impl Trial {
     // Of these lanes, those in which the closure reaches the literals of all matters.
     pub fn founded(&self, block: &Block, lanes: u64) -> u64
-        requires { (P : List SomeRule) × (over : Overruling) × (X : ℕ → Literals) × Sound P self.now × Has X block.now × Tabled over self.now.overrulers }
+        requires { (P : List SomeRule) × Sound P self.now }
         ensures { (P : List SomeRule) (over : Overruling) (X : ℕ → Literals) → Sound P self.now → Has X block.now → Tabled over self.now.overrulers → FoundedIn (struck P) over self.now.matters X lanes result }
     {
         let firings = self.firings(block, lanes);
@@ -25,7 +25,7 @@ impl Trial {
     // What the rules give in these lanes.
     fn firings(&self, block: &Block, lanes: u64) -> Firings
         requires { (P : List SomeRule) × Sound P self.now }
-        ensures { (P : List SomeRule) (over : Overruling) (X : ℕ → Literals) → Sound P self.now → Has X block.now → Tabled over self.now.overrulers → HoldingTo (struck P) over self.now.matters X lanes self.now.matters result }
+        ensures { (P : List SomeRule) (over : Overruling) (X : ℕ → Literals) → Sound P self.now → Has X block.now → Tabled over self.now.overrulers → HoldingTo (struck P) over self.now.matters X lanes self.now.matters result.items.items }
     {
         let mut firings = Firings::none();
         for matter in 0..self.matters {
