@@ -12,7 +12,10 @@ use rules::sets::has;
 impl Block {
     // Sixty-four candidates: the yes matters, each time with the part of the undecided ones that has the next number.
     pub fn of(matters: u8, yes: u16, undecided: u16, first: u32) -> Block
-        requires { (matters ≤ 16) × ((first % 64 ≡ 0) × ((((a : ℕ) → Mem a yes → Mem a undecided → ⊥)) × (((l : ℕ) → bit_or yes (part 16 undecided (first + l)) < 2 ^ matters)))) }
+        requires matters { matters ≤ 16 }
+        requires first { first % 64 ≡ 0 }
+        requires apart { (a : ℕ) → Mem a yes → Mem a undecided → ⊥ }
+        requires small { (l : ℕ) → bit_or yes (part 16 undecided (first + l)) < 2 ^ matters }
         ensures { Has (λ l. settled matters (bit_or yes (part 16 undecided (first + l)))) result }
     {
         let mut block = Block::empty();
@@ -27,7 +30,10 @@ impl Block {
     }
 
     fn empty() -> Block
-        ensures { (result.yes ≡ replicate 16 0) × (result.no ≡ replicate 16 0) × (result.some ≡ (0, 0)) × (result.varying ≡ 0) }
+        ensures yes { result.yes ≡ replicate 16 0 }
+        ensures no { result.no ≡ replicate 16 0 }
+        ensures some { result.some ≡ (0, 0) }
+        ensures varying { result.varying ≡ 0 }
     {
         Block {
             yes: [0; MOST_MATTERS],
@@ -64,7 +70,10 @@ impl Block {
 
 // Which of the candidates have the matter, if it is undecided as the one of this rank.
 fn side_of(yes: u16, undecided: u16, first: u32, a: u8, rank: u8) -> Side
-    requires { (a < 16) × ((rank ≡ rank_of undecided a) × ((first % 64 ≡ 0) × ((Mem a yes → Mem a undecided → ⊥)))) }
+    requires matter { a < 16 }
+    requires rank { rank ≡ rank_of undecided a }
+    requires first { first % 64 ≡ 0 }
+    requires apart { Mem a yes → Mem a undecided → ⊥ }
     ensures { Takes result (λ l. Mem a (bit_or yes (part 16 undecided (first + l)))) }
 {
     if has(undecided.into(), a) {

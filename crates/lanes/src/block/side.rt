@@ -24,7 +24,8 @@ const LANES_WITH_BIT: [u64; 6] = [
 
 // The lanes whose number, counted on from that of the first, has the bit.
 pub fn side_of_bit(bit: u8, first: u32) -> Side
-    requires { (bit < 16) × (first % 64 ≡ 0) }
+    requires bit { bit < 16 }
+    requires first { first % 64 ≡ 0 }
     ensures { Takes result (λ l. Mem bit (first + l)) }
 {
     if bit < 6 {

@@ -20,7 +20,9 @@ pub struct Swept {
 impl Trial {
     // The lanes in which each matter from `from` up to `to` stands. It ends as soon as there is none.
     pub fn sweep(&self, block: &Block, from: u8, to: u8, lanes: u64) -> Swept
-        requires { (((P : List SomeRule) × Sound P self.now)) × ((from ≤ to) × (to ≤ 16)) }
+        requires sound { (P : List SomeRule) × Sound P self.now }
+        requires rising { from ≤ to }
+        requires inside { to ≤ 16 }
         ensures { (P : List SomeRule) (over : Overruling) (X : ℕ → Literals) → Sound P self.now → Has X block.now → Tabled over self.now.overrulers → to ≤ self.now.matters → SetOf result.lanes (StandFrom P over self.now.matters X from to lanes) }
     {
         let mut lanes = lanes;
@@ -38,7 +40,8 @@ impl Trial {
 
     // The lanes in which the matter stands.
     fn standing(&self, block: &Block, matter: u8) -> u64
-        requires { (((P : List SomeRule) × Sound P self.now)) × (matter < 16) }
+        requires sound { (P : List SomeRule) × Sound P self.now }
+        requires matter { matter < 16 }
         ensures { (P : List SomeRule) (over : Overruling) (X : ℕ → Literals) → Sound P self.now → Has X block.now → Tabled over self.now.overrulers → matter < self.now.matters → SetOf result (λ l. (l < 64) × Stands (struck P) over self.now.matters (X l) matter) }
     {
         let contest = Contest::among(self.docket.about(matter), block);

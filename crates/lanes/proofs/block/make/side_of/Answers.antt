@@ -7,14 +7,14 @@ use Rattle.steps.proofs.Subsets.{rank_le, part_within}
 use Rattle.lanes.proofs.block.make.side_of.Goals as goal
 
 pub side_of_bit-requires : goal.side_of_bit-requires
-side_of_bit-requires c = let r = rank_le c.args.undecided c.args.a in let e = c.requires.1.0 in let l = c.requires.0 in (omega arith, c.requires.1.1.0)
+side_of_bit-requires c = let r = rank_le c.args.undecided c.args.a in let e = c.requires.rank in let l = c.requires.matter in record { bit = omega arith; first = c.requires.first }
 
 pub returns-then-has : goal.returns-then-has
 returns-then-has c =
     let u = subst (Mem c.args.a) c.into.ensures (c.has.ensures.0 c.if-has.true) in
     takes_same c.side_of_bit.result
-    (λ l m. has_by_bit c.args.yes c.args.undecided _ c.args.a c.args.rank c.requires.0 c.requires.1.0 u m)
-    (λ l m. bit_by_has c.args.yes c.args.undecided _ c.args.a c.args.rank c.requires.0 c.requires.1.0 (λ y. c.requires.1.1.1 y u) m)
+    (λ l m. has_by_bit c.args.yes c.args.undecided _ c.args.a c.args.rank c.requires.matter c.requires.rank u m)
+    (λ l m. bit_by_has c.args.yes c.args.undecided _ c.args.a c.args.rank c.requires.matter c.requires.rank (λ y. c.requires.apart y u) m)
     c.side_of_bit.ensures
 
 pub returns-then-has-2 : goal.returns-then-has-2

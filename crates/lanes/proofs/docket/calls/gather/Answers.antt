@@ -12,14 +12,14 @@ pub loop-r-init : goal.loop-r-init
 loop-r-init c = sym (append-nil (held c.args.table.now))
 
 pub is_about-requires : goal.is_about-requires
-is_about-requires c = c.requires.1 _ (placed _ _ _ c.loop-r-test.true)
+is_about-requires c = c.requires.formed _ (placed _ _ _ c.loop-r-test.true)
 
 pub loop-r-preserved : goal.loop-r-preserved
 loop-r-preserved c =
     let p = about c.args.matter in
     let P = c.args.rules.now in
     elim c.if-is_about.branch [
-      | then-is_about w ↦ ap held w.table-is ∙ kept_push p P (held c.args.table.now) _ _ c.loop-r.r-index w.push.result c.loop-r-test.true c.requires.0 w.if-is_about.ensures c.loop-r.invariant w.push.ensures.value w.push.ensures.after
+      | then-is_about w ↦ ap held w.table-is ∙ kept_push p P (held c.args.table.now) _ _ c.loop-r.r-index w.push.result c.loop-r-test.true c.requires.room w.if-is_about.ensures c.loop-r.invariant w.push.ensures.value w.push.ensures.after
       | else-is_about w ↦ ap held w.table-is ∙ kept_skip p P (held c.args.table.now) _ c.loop-r.r-index c.loop-r-test.true w.if-is_about.ensures c.loop-r.invariant
     ]
 

@@ -9,7 +9,8 @@ pub loop-matter-init : goal.loop-matter-init
 loop-matter-init c = ((let e = ap length c.none-firings.ensures in omega arith), λ P over X s has t. holding_none (struck P) over _ X c.args.lanes _ c.none-firings.ensures)
 
 pub about-requires : goal.about-requires
-about-requires c = let m = most_matters c.requires.0 c.args.self.now c.requires.1 in let l = c.loop-matter-test.true in ((omega arith), c.requires.1.docketed.rising c.loop-matter.matter (omega arith))
+about-requires c = let m = most_matters c.requires.0 c.args.self.now c.requires.1 in let l = c.loop-matter-test.true in
+    let r = c.requires.1.docketed.rising c.loop-matter.matter (omega arith) in record { matter = omega arith; rising = r.0; inside = r.1 }
 
 pub enter-requires : goal.enter-requires
 enter-requires c =
