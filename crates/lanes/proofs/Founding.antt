@@ -26,6 +26,10 @@ use Rattle.lanes.proofs.Settling.{stands_closed}
 pub pushed : (f g : List Firing) (x : Firing) → g ≡ f ++ x ∷ [] → length g ≡ length f + 1
 pushed f g x e = ap length e ∙ length_push f x
 
+-- about an earlier matter than m, or one of the first i rules
+abbrev pub Partly : List Rule → ℕ → ℕ → Rule → Type 0
+Partly rs m i q = (q.head < m) ⊎ ((k : ℕ) × (k < i) × (get_or rs k no_rule ≡ q))
+
 module _ (Q : List Rule) (over : Overruling) (n : ℕ) (X : ℕ → LiteralSet) (w : ℕ) where
   -- nothing is asked yet
   pub holding_none : (f : List Firing) → f ≡ [] → HoldingTo Q over n X w 0 f
@@ -82,12 +86,8 @@ module _ (Q : List Rule) (over : Overruling) (n : ℕ) (X : ℕ → LiteralSet) 
   -- The rules about one matter
 
   module _ (rs : List Rule) (m : ℕ) (low : m < 16) (about : Members rs (About Q m)) where
-    -- about an earlier matter, or one of the first i rules
-    abbrev pub Partly : ℕ → Rule → Type 0
-    Partly i q = (q.head < m) ⊎ ((k : ℕ) × (k < i) × (get_or rs k no_rule ≡ q))
-
     pub enter_default : (f g : List Firing) (v : ℕ) → g ≡ f ++ (record { head = m; needs = 0; lanes = v }) ∷ []
-        → SetOf v (λ l. Mem l w × Default Q n (X l) m) → HoldingTo Q over n X w m f → Holding Q over n X w (λ b. b < m + 1) (Partly 0) g
+        → SetOf v (λ l. Mem l w × Default Q n (X l) m) → HoldingTo Q over n X w m f → Holding Q over n X w (λ b. b < m + 1) (Partly rs m 0) g
     enter_default f g v items s h = holding_push f g (record { head = m; needs = 0; lanes = v }) items low
         (λ l k. let d = s.only l k in (d.0, inl (m, d.1, (refl, refl))))
         (λ b l k c d. ⊎_elim (λ e. inl e) (λ e. let q : b ≡ m = omega arith in inr (s.all l (k, subst (Default Q n (X l)) q d), (q, refl))) (cases_lt b m))
@@ -95,7 +95,7 @@ module _ (Q : List Rule) (over : Overruling) (n : ℕ) (X : ℕ → LiteralSet) 
         h
 
     pub enter_rule : (i : ℕ) (f g : List Firing) (v : ℕ) → i < length rs → g ≡ f ++ (record { head = m; needs = bit_or (get_or rs i no_rule).yes (get_or rs i no_rule).no; lanes = v }) ∷ []
-        → SetOf v (λ l. Mem l w × Live Q over (X l) (get_or rs i no_rule)) → Holding Q over n X w (λ b. b < m + 1) (Partly i) f → Holding Q over n X w (λ b. b < m + 1) (Partly (i + 1)) g
+        → SetOf v (λ l. Mem l w × Live Q over (X l) (get_or rs i no_rule)) → Holding Q over n X w (λ b. b < m + 1) (Partly rs m i) f → Holding Q over n X w (λ b. b < m + 1) (Partly rs m (i + 1)) g
     enter_rule i f g v inside items s h =
         let r = get_or rs i no_rule in
         let head_is = (about.only r (placed rs i no_rule inside)).1 in
@@ -109,7 +109,7 @@ module _ (Q : List Rule) (over : Overruling) (n : ℕ) (X : ℕ → LiteralSet) 
         (cases_lt e.0 i)) c)
         h
 
-    pub skip_rule : (i : ℕ) (f : List Firing) (v : ℕ) → v ≡ 0 → SetOf v (λ l. Mem l w × Live Q over (X l) (get_or rs i no_rule)) → Holding Q over n X w (λ b. b < m + 1) (Partly i) f → Holding Q over n X w (λ b. b < m + 1) (Partly (i + 1)) f
+    pub skip_rule : (i : ℕ) (f : List Firing) (v : ℕ) → v ≡ 0 → SetOf v (λ l. Mem l w × Live Q over (X l) (get_or rs i no_rule)) → Holding Q over n X w (λ b. b < m + 1) (Partly rs m i) f → Holding Q over n X w (λ b. b < m + 1) (Partly rs m (i + 1)) f
     skip_rule i f v zero s h = holding_less f
         (λ b l k c d. c)
         (λ q l k c d. ⊎_elim (λ e. inl e) (λ e. ⊎_elim
@@ -119,7 +119,7 @@ module _ (Q : List Rule) (over : Overruling) (n : ℕ) (X : ℕ → LiteralSet) 
         (cases_lt e.0 i)) c)
         h
 
-    pub enter_end : (i : ℕ) (f : List Firing) → length rs ≤ i → Holding Q over n X w (λ b. b < m + 1) (Partly i) f → HoldingTo Q over n X w (m + 1) f
+    pub enter_end : (i : ℕ) (f : List Firing) → length rs ≤ i → Holding Q over n X w (λ b. b < m + 1) (Partly rs m i) f → HoldingTo Q over n X w (m + 1) f
     enter_end i f done h = holding_less f
         (λ b l k c d. c)
         (λ q l k c d. ⊎_elim

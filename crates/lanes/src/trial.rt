@@ -1,6 +1,7 @@
 use crate::docket::Docket;
 use rules::table::MOST_SHEETS;
 
+mod contest;
 mod founded;
 pub mod outcomes;
 mod sweep;

@@ -1,13 +1,11 @@
 ghost use Rattle.std.specs.Prelude.{ℕ, ◌<◌, ◌≤◌, List};
 ghost use Rattle.rules.specs.declared.rule.Rule.{Rule as SomeRule};
 ghost use Rattle.rules.specs.Semantics.{LiteralSet as Literals, Overruling, struck};
-ghost use Rattle.steps.specs.Parts.{SetOf, Tabled};
-ghost use Rattle.lanes.specs.Blocks.{Has};
+ghost use Rattle.steps.specs.Parts.{SetOf};
 ghost use Rattle.lanes.specs.Settling.{Stands};
-ghost use Rattle.lanes.specs.Trying.{Sound, StandFrom};
+ghost use Rattle.lanes.specs.Trying.{Sound, Facing, StandFrom};
 
 use crate::block::Block;
-use crate::contest::Contest;
 use crate::trial::Trial;
 
 // The lanes that are left, and the matter at which the sweep ended.
@@ -23,7 +21,7 @@ impl Trial {
         requires sound { (P : List SomeRule) × Sound P self.now }
         requires rising { from ≤ to }
         requires inside { to ≤ 16 }
-        ensures { (P : List SomeRule) (over : Overruling) (X : ℕ → Literals) → Sound P self.now → Has X block.now → Tabled over self.now.overrulers → to ≤ self.now.matters → SetOf result.lanes (StandFrom P over self.now.matters X from to lanes) }
+        ensures { (P : List SomeRule) (over : Overruling) (X : ℕ → Literals) → Facing P over X self.now block.now → to ≤ self.now.matters → SetOf result.lanes (StandFrom P over self.now.matters X from to lanes) }
     {
         let mut lanes = lanes;
         for matter in from..to {
@@ -42,9 +40,8 @@ impl Trial {
     fn standing(&self, block: &Block, matter: u8) -> u64
         requires sound { (P : List SomeRule) × Sound P self.now }
         requires matter { matter < 16 }
-        ensures { (P : List SomeRule) (over : Overruling) (X : ℕ → Literals) → Sound P self.now → Has X block.now → Tabled over self.now.overrulers → matter < self.now.matters → SetOf result (λ l. (l < 64) × Stands (struck P) over self.now.matters (X l) matter) }
+        ensures { (P : List SomeRule) (over : Overruling) (X : ℕ → Literals) → Facing P over X self.now block.now → matter < self.now.matters → SetOf result (λ l. (l < 64) × Stands (struck P) over self.now.matters (X l) matter) }
     {
-        let contest = Contest::among(self.docket.about(matter), block);
-        contest.settled(matter, block, &self.overrulers)
+        self.contest(block, matter).settled(matter)
     }
 }

@@ -14,7 +14,7 @@ use Rattle.lanes.proofs.MemberLists.{SomeOf, some_of_none, some_of_more, some_li
 use Rattle.lanes.proofs.contest.Contest.unrejected.Goals as goal
 
 pub fold-requires-clause-callable : goal.fold-requires-clause-callable
-fold-requires-clause-callable c = serves_by _ (λ _ q. q.0 ≡ (c.args.self, c.args.sign, c.args.overrulers)) (λ xs q x v j k. search rules) _ _ _ _ refl
+fold-requires-clause-callable c = serves_by _ (λ _ q. q.0 ≡ (c.args.self, c.args.sign)) (λ xs q x v j k. search rules) _ _ _ _ refl
     (λ xs t q x u y e j.
     let m = came _ _ xs t u x c.members_of.ensures y e in
     let inside = mem_below 32 c.side.result.now.sheets x (omega arith) m in
@@ -22,7 +22,7 @@ fold-requires-clause-callable c = serves_by _ (λ _ q. q.0 ≡ (c.args.self, c.a
 
 pub returns : goal.returns
 returns c =
-    let said : ℕ → ℕ → Type 0 = λ j l. (l < 64) × Unrejected c.args.overrulers.now c.args.self.now c.args.sign l j in
+    let said : ℕ → ℕ → Type 0 = λ j l. (l < 64) × Unrejected c.args.self.now c.args.sign l j in
     let small : c.side.result.now.sheets < 2 ^ 32 = omega arith in
     let claims = some_listed said c.side.result.now.sheets c.fold.result small
     (fold_over (YieldsFirst (λ (s : Members). member_list s.rest)) (λ (j : ℕ). j) _ (SomeOf said) _
