@@ -1,5 +1,5 @@
 -- How the claimants of a literal are gathered, rule by rule.
-use Rattle.std.proofs.Common.{◌≡◌, ℕ, ◌+◌, ◌*◌, ◌%◌, ◌^◌, ◌<◌, ◌≤◌, ◌⊎◌, List, length, get_or, set, replicate, sym, refl, ap, ◌∙◌, subst, inl, inr, ⊎_elim, arith, get_or-set_other, get_or-set_same}
+use Rattle.std.proofs.Common.{◌≡◌, ℕ, ◌+◌, ◌*◌, ◌%◌, ◌^◌, ◌<◌, ◌⊎◌, List, length, get_or, set, replicate, sym, refl, ap, ◌∙◌, subst, inl, inr, ⊎_elim, arith, get_or-set_other, get_or-set_same}
 use lib.Bits.{bit_and, bit_or}
 use Rattle.std.proofs.lemmas.Nat.{one_shl}
 use Rattle.std.proofs.lemmas.Bool.{cases_lt, cases_eq}
@@ -15,14 +15,6 @@ use Rattle.lanes.specs.Claiming.{Asserted, Gathered, Added, Among}
 
 pub noted_none : (j l : ℕ) → Mem l (get_or (replicate 32 0) j 0) → Mem j 0
 noted_none j l h = absurd (not_in_zero l (subst (Mem l) (zero_at 32 j) h))
-
-pub gathered_none : (rs : List Rule) (X : ℕ → LiteralSet) (s : Sign) (c : Claimants) → c.lanes ≡ replicate 32 0 → Gathered rs 0 X s c
-gathered_none rs X s c e = record {
-  lanes = λ j _. record {
-    all = λ l w. let h = w.1.1 in absurd (omega arith);
-    only = λ l h. absurd (not_in_zero l (subst (Mem l) (ap (λ (xs : List ℕ). get_or xs j 0) e ∙ zero_at 32 j) h));
-  };
-}
 
 -- a rule of the other sign changes nothing
 pub gathered_skip : (rs : List Rule) (i : ℕ) (X : ℕ → LiteralSet) (s : Sign) (c : Claimants) → ((get_or rs i no_rule).sign ≡ s → ⊥) → Gathered rs i X s c → Gathered rs (i + 1) X s c
@@ -73,13 +65,6 @@ gathered_more rs i X s c d w e body-set add g = record {
         (cases_lt v.1.0 i))
         add.here
 
--- nothing is added where there is no lane
-pub added_none : (j w : ℕ) (c : Claimants) → w ≡ 0 → Added j w c c
-added_none j w c z = record {
-  here = record { all = λ l. ⊎_elim (λ m. m) (λ m. absurd (not_in_zero l (subst (Mem l) z m))); only = λ l m. inl m };
-  there = λ i _. refl;
-}
-
 pub added_some : (j w : ℕ) (c d : Claimants) → j < length c.lanes → d.lanes ≡ set c.lanes j (bit_or (get_or c.lanes j 0) w) → Added j w c d
 added_some j w c d long f =
     let own = get_or c.lanes j 0 in
@@ -103,6 +88,3 @@ among_set c chosen r s = set_same
     (λ l w. (w.0, mem_and_right w.0 c.sheets chosen w.1, w.2))
     (λ l w. (w.0, mem_and w.0 c.sheets chosen (c.noted w.0 l w.2) w.1, w.2))
     s
-
-pub gathered_end : (rs : List Rule) (i : ℕ) (X : ℕ → LiteralSet) (s : Sign) (c : Claimants) → i ≤ length rs → length rs ≤ i → Gathered rs i X s c → Gathered rs (length rs) X s c
-gathered_end rs i X s c p q g = let e : i ≡ length rs = omega arith in subst (λ (k : ℕ). Gathered rs k X s c) e g

@@ -1,13 +1,17 @@
 -- The members of a set, listed from the lowest up.
-use Rattle.std.proofs.Common.{◌≡◌, ℕ, zero, suc, ◌+◌, ◌-◌, ◌/◌, ◌%◌, ◌^◌, ◌<◌, ◌≤◌, Bool, true, false, cond, ◌⊎◌, List, [], ◌∷◌, ◌++◌, length, get_or, filter, Some, sym, refl, ap, ◌∙◌, subst, inl, inr, ⊎_elim, true≢false, arith}
+use Rattle.std.proofs.Common.{◌≡◌, ℕ, zero, suc, ◌+◌, ◌-◌, ◌/◌, ◌%◌, ◌^◌, ◌<◌, ◌≤◌, Bool, true, false, cond, ◌⊎◌, List, [], ◌∷◌, ◌++◌, length, get_or, filter, Some, sym, refl, ap, ◌∙◌, subst, inl, inr, ⊎_elim, true≢false, w32, arith}
 use mathlib.Core.List.{Memᴰ}
 use mathlib.Core.List.Memᴰ
 use lib.Bits.{bit_and, bit_or}
 use lib.Count.{count_trailing_zeros}
 use Rattle.std.specs.List.{range_with_len}
-use Rattle.std.specs.Iterator.{Yields, YieldsFirst}
+use denote.Param.Members.{Mut, Called}
+use Rattle.std.specs.Fn.{Takes}
+use Rattle.std.specs.Iterator.{Yields, YieldsFirst, FoldTurn, CallableInFold, FoldsItems}
+use Rattle.std.proofs.lemmas.Fn.{fold_over, serves_by}
 use Rattle.std.proofs.lemmas.Iterator.{YieldsList}
 use Rattle.std.proofs.lemmas.Iterator.Consumers.{YieldsList-from_first, YieldsList-turn}
+use Rattle.std.proofs.lemmas.Nat.Bits.{bit_at-trailing_zeros}
 use Rattle.std.proofs.lemmas.Bool.{cases_lt, cases_eq, cases_Bool, eqb-true, eq-eqb}
 use Rattle.rules.specs.Semantics.{Mem}
 use Rattle.rules.proofs.Bitwise.{mem_below, mem_and, mem_and_left, mem_and_right, mem_or_left, mem_or_right, mem_or_cases, not_in_zero}
@@ -17,7 +21,7 @@ use Rattle.steps.proofs.SetOfs.{set_same}
 use Rattle.lanes.specs.declared.members.Members.{Members}
 use Rattle.lanes.specs.Members.{holds_member, member_list}
 use Rattle.lanes.proofs.LaneSets.{set_full}
-use Rattle.lanes.proofs.Lowest.{dropped, lowest, lowest_least, dropped_not, dropped_other, dropped_was}
+use Rattle.lanes.proofs.Lowest.{dropped, dropped_not, dropped_other, dropped_was}
 
 -- what is listed
 in_range : (a n j : ℕ) → a ≤ j → j < a + n → Memᴰ j (range_with_len a n)
@@ -80,13 +84,14 @@ pub first_listed : (set : ℕ) → set < 2 ^ 32 → (set ≡ 0 → ⊥) → memb
 unfolding member_list
 first_listed set small some =
     let t = count_trailing_zeros 32 set in
-    let m = lowest 32 set small some in
-    let b = mem_below 32 set t small m in
+    let full : 0 < set = ⊎_elim (λ l. l) (λ l. absurd (some (omega arith))) (cases_lt 0 set) in
+    let first = bit_at-trailing_zeros w32 set full small in
+    let inside = first.0 in
     first_out (holds_member set) (holds_member (dropped set)) t 0 32 (omega arith) (omega arith)
-    (test_true set t m)
-    (test_false (dropped set) t (dropped_not 32 set small some))
-    (λ j l. let out : Mem j set → ⊥ = λ k. let c = lowest_least 32 set j small k in absurd (omega arith) in (test_false set j out, test_false (dropped set) j (λ k. out (dropped_was set j k))))
-    (λ j l. same_test set (dropped set) j (λ k. dropped_other 32 set j small k (λ e. absurd (omega arith))) (dropped_was set j))
+    (test_true set t first.1)
+    (test_false (dropped set) t (dropped_not 32 set small full))
+    (λ j l. let out : Mem j set → ⊥ = λ k. let zero_there = first.2 j l in omega arith in (test_false set j out, test_false (dropped set) j (λ k. out (dropped_was set j k))))
+    (λ j l. same_test set (dropped set) j (λ k. dropped_other 32 set j small full k (λ e. absurd (omega arith))) (dropped_was set j))
   where
     test_true : (s j : ℕ) → Mem j s → holds_member s j ≡ true
     test_true s j k = eq-eqb (s / 2 ^ j % 2) 1 k
@@ -159,3 +164,15 @@ module _ (said : ℕ → ℕ → Type 0) where
 
   pub all_listed : (set lanes : ℕ) → set < 2 ^ 32 → AllOf (member_list set) lanes → SetOf lanes (λ l. (l < 64) × ((j : ℕ) → Mem j set → said j l))
   all_listed set lanes small s = set_same (λ l w. (w.0, λ j m. w.1 j (listed set j small m))) (λ l w. (w.0, λ j m. w.1 j (listed_only set j m))) s
+
+-- A fold over the members, by a closure that it leaves as it was
+
+module _ {F : Type 0} (g : Mut F (ℕ × (ℕ × Unit {0})) ℕ) (f : F) (s : Members) (set : ℕ) (e : s.rest ≡ set) where
+  pub fold_callable : (a : ℕ) → ((b x r : ℕ) (h : F) → Called g f (b, (x, tt)) r h → h ≡ f) → ((b x : ℕ) → Mem x set → Takes g f (b, (x, tt)))
+      → CallableInFold (YieldsFirst (λ (t : Members). member_list t.rest)) g s f a
+  fold_callable a stays takes = serves_by {P = F × ℕ} (FoldTurn g) (λ _ q. q.0 ≡ f) (λ xs q x v j k. stays q.1 x v.1 v.0 (subst (λ (h : F). Called g h (q.1, (x, tt)) v.1 v.0) j k)) _ _ s (f, a) refl
+      (λ xs t q x u y n j. subst (λ (h : F). Takes g h (q.1, (x, tt))) (sym j) (takes q.1 x (came s set xs t u x e y n)))
+
+  pub fold_gives : (J : List ℕ → ℕ → Type 0) (a r : ℕ) → J [] a → ((ys : List ℕ) (b x v : ℕ) (h : F) → J ys b → Called g f (b, (x, tt)) v h → J (ys ++ (x ∷ [])) v × (h ≡ f))
+      → FoldsItems (YieldsFirst (λ (t : Members). member_list t.rest)) g s f a r → J (member_list set) r
+  fold_gives J a r j step ran = fold_over (YieldsFirst (λ (t : Members). member_list t.rest)) (λ (x : ℕ). x) g J f step s (member_list set) a r (road s set e).runs j ran

@@ -1,14 +1,13 @@
 -- How the firings are followed to the end.
-use Rattle.std.proofs.Common.{◌≡◌, ℕ, suc, ◌+◌, ◌*◌, ◌^◌, ◌<◌, ◌≤◌, ◌⊎◌, List, [], ◌∷◌, ◌++◌, length, get_or, set, replicate, sym, refl, ap, ◌∙◌, subst, inl, inr, ⊎_elim, suc-mul, arith, get_or-set_other, get_or-set_same}
+use Rattle.std.proofs.Common.{◌≡◌, ℕ, suc, ◌+◌, ◌*◌, ◌^◌, ◌<◌, ◌≤◌, ◌⊎◌, List, [], ◌∷◌, ◌++◌, length, get_or, set, sym, refl, ap, ◌∙◌, subst, inl, inr, ⊎_elim, suc-mul, arith, get_or-set_other, get_or-set_same}
 use lib.Bits.{bit_and, bit_or}
 use Rattle.std.proofs.lemmas.Bool.{cases_lt, cases_eq}
 use Rattle.std.proofs.lemmas.List.{get_or_append_left, get_or_push, length_push}
 use Rattle.rules.specs.Semantics.{Mem}
-use Rattle.rules.proofs.Bitwise.{mem_and, mem_and_left, mem_and_right, mem_or_left, mem_or_right, mem_or_cases, not_in_zero, within_le, below_from_members, mem_below}
+use Rattle.rules.proofs.Bitwise.{mem_and, mem_and_left, mem_and_right, mem_or_left, mem_or_right, mem_or_cases, within_le, below_from_members, mem_below}
 use Rattle.steps.specs.Parts.{SetOf}
-use Rattle.steps.proofs.SetOfs.{zero_at}
 use Rattle.lanes.specs.declared.firing.Firing.{Firing}
-use Rattle.lanes.specs.Firing.{no_firing, at, Follows, Lanes, Comes, Rounded, Reached, Low, Fired}
+use Rattle.lanes.specs.Firing.{no_firing, at, Follows, Lanes, Comes, Rounded, Low, Fired}
 use Rattle.lanes.specs.Firing.Follows.{by}
 
 -- One firing
@@ -54,9 +53,6 @@ low_push f x head small low = let len = length_push f x in record {
 
 -- One round
 
-pub round_start : (f : List Firing) (words : List ℕ) → Rounded f 0 words words
-round_start f words = record { keeps = λ a l m. m; fires = λ k h. absurd (omega arith); only = λ g a l m. g a l m }
-
 pub round_more : (f : List Firing) (i : ℕ) (old mid new : List ℕ) → i < length f → Low f → Rounded f i old mid → Fired (at f i) mid new → Rounded f (i + 1) old new
 round_more f i old mid new h low r x = record {
   keeps = λ a l m. x.keeps a l (r.keeps a l m);
@@ -68,20 +64,11 @@ round_more f i old mid new h low r x = record {
   only = λ g a l m. ⊎_elim (λ o. r.only g a l o) (λ c. by i h c.0 c.1 (λ j n. r.only g j l (c.2 j n))) (x.only a l m);
 }
 
-pub round_end : (f : List Firing) (i : ℕ) (old new : List ℕ) → i ≡ length f → Rounded f i old new → Rounded f (length f) old new
-round_end f i old new e r = subst (λ (k : ℕ). Rounded f k old new) e r
-
 -- To the end
 
 -- on the way, what is there follows
 abbrev pub Followed : List Firing → List ℕ → Type 0
 Followed f words = (a l : ℕ) → Lanes words a l → Follows f a l
-
-pub followed_start : (f : List Firing) → Followed f (replicate 16 0)
-followed_start f a l m = absurd (not_in_zero l (subst (Mem l) (zero_at 16 a) m))
-
-pub reached_end : (f : List Firing) (words new : List ℕ) → new ≡ words → Followed f words → Rounded f (length f) words new → Reached f words
-reached_end f words new e w r = record { all = λ k h a l c. subst (λ (xs : List ℕ). Lanes xs a l) e (r.fires k h a l c); only = w }
 
 -- what follows is in a lane
 follows_low : (f : List Firing) (a l : ℕ) → Low f → Follows f a l → l < 64

@@ -5,7 +5,8 @@ use rules::table::MOST_SHEETS;
 
 pub mod calls;
 
-// The sheets that claim one literal, and for each sheet the lanes in which it does.
+// The sheets that claim one literal, and for each sheet the lanes in which it does. The set says which words to visit: a map
+// of the few sheets would be searched for each rule.
 #[derive(Clone, Copy)]
 pub struct Claimants {
     pub sheets: u32,

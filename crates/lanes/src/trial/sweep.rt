@@ -8,7 +8,8 @@ ghost use Rattle.lanes.specs.Trying.{Sound, Facing, StandFrom};
 use crate::block::Block;
 use crate::trial::Trial;
 
-// The lanes that are left, and the matter at which the sweep ended.
+// The lanes that are left, and the matter at which the sweep ended. No Option of lanes: a next guess comes with some lanes and
+// with none.
 #[derive(Clone, Copy)]
 pub struct Swept {
     pub lanes: u64,

@@ -1,21 +1,14 @@
-use Rattle.std.proofs.Common.{◌≡◌, ℕ, get_or, rules, refl, arith}
-use Rattle.std.specs.Iterator.{YieldsFirst}
-use Rattle.std.proofs.lemmas.Fn.{fold_over, serves_by}
+use Rattle.std.proofs.Common.{ℕ, get_or, rules, arith}
 use Rattle.rules.specs.Semantics.{Mem}
-use Rattle.lanes.specs.declared.members.Members.{Members}
-use Rattle.lanes.specs.Members.{member_list}
-use Rattle.lanes.proofs.MemberLists.{SomeOf, some_of_none, some_of_more, some_listed, road, came}
 use Rattle.lanes.proofs.LaneSets.{set_own}
+use Rattle.lanes.proofs.MemberLists.{SomeOf, some_of_none, some_of_more, some_listed, fold_callable, fold_gives}
 use Rattle.lanes.proofs.words.any_of.Goals as goal
 
 pub fold-requires-clause-callable : goal.fold-requires-clause-callable
-fold-requires-clause-callable c = serves_by _ (λ _ q. q.0 ≡ (record { 0 = c.args.words })) (λ xs q x v j k. search rules) _ _ _ _ refl
-    (λ xs t q x u y e j. let inside = c.requires x (came _ _ xs t u x c.members_of.ensures y e) in search rules)
+fold-requires-clause-callable c = fold_callable _ _ _ _ c.members_of.ensures _ (λ a j b f k. search rules) (λ a j m. let inside = c.requires j m in search rules)
 
 pub returns : goal.returns
 returns c =
     let said : ℕ → ℕ → Type 0 = λ j l. Mem l (get_or c.args.words.now j 0) in
     some_listed said c.args.chosen c.fold.result (omega arith)
-    (fold_over (YieldsFirst (λ (s : Members). member_list s.rest)) (λ (j : ℕ). j) _ (SomeOf said) _
-    (λ ys a x b f i k. let more = some_of_more said ys a x (get_or c.args.words.now x 0) i (set_own _) in search rules)
-    c.members_of.result (member_list c.args.chosen) 0 c.fold.result (road _ _ c.members_of.ensures).runs (some_of_none said) c.fold.ensures.ran)
+    (fold_gives _ _ _ _ c.members_of.ensures (SomeOf said) _ _ (some_of_none said) (λ ys a j b f i k. let more = some_of_more said ys a j (get_or c.args.words.now j 0) i (set_own _) in search rules) c.fold.ensures.ran)

@@ -11,12 +11,6 @@ use Rattle.lanes.proofs.block.Block.of.Goals.{then-has, else-has}
 pub loop-a-init : goal.loop-a-init
 loop-a-init c = (both_start _ _ c.empty-block.ensures.yes c.empty-block.ensures.no c.empty-block.ensures.some c.empty-block.ensures.varying, rank_none c.args.undecided)
 
-pub side_of-requires : goal.side_of-requires
-side_of-requires c = record { matter = let l = c.loop-a-test.true in let m = c.requires.matters in omega arith; rank = c.loop-a.invariant.1; first = c.requires.first; apart = c.requires.apart c.loop-a.a }
-
-pub put-requires : goal.put-requires
-put-requires c = let l = c.loop-a-test.true in let m = c.requires.matters in omega arith
-
 pub overflow_add-rank : goal.overflow_add-rank
 overflow_add-rank c = let r = rank_le c.args.undecided c.loop-a.a in let e = c.loop-a.invariant.1 in let l = c.loop-a-test.true in let m = c.requires.matters in omega arith
 

@@ -6,8 +6,8 @@ use Rattle.lanes.proofs.Sides.{takes_same, has_by_bit, bit_by_has}
 use Rattle.steps.proofs.Subsets.{rank_le, part_within}
 use Rattle.lanes.proofs.block.make.side_of.Goals as goal
 
-pub side_of_bit-requires : goal.side_of_bit-requires
-side_of_bit-requires c = let r = rank_le c.args.undecided c.args.a in let e = c.requires.rank in let l = c.requires.matter in record { bit = omega arith; first = c.requires.first }
+pub side_of_bit-requires-clause-bit : goal.side_of_bit-requires-clause-bit
+side_of_bit-requires-clause-bit c = let r = rank_le c.args.undecided c.args.a in let e = c.requires.rank in let l = c.requires.matter in omega arith
 
 pub returns-then-has : goal.returns-then-has
 returns-then-has c =

@@ -1,4 +1,4 @@
-use Rattle.std.proofs.Common.{ℕ, ◌+◌, sym, subst, arith, rules}
+use Rattle.std.proofs.Common.{ℕ, ◌+◌, sym, subst, rules}
 use denote.Enum.Bare.{same_true, same_false}
 use Rattle.rules.specs.contracts.rule.Sign.{the_type}
 use Rattle.rules.specs.Semantics.{LiteralSet}
@@ -6,12 +6,9 @@ use Rattle.rules.proofs.Computed.{placed}
 use Rattle.lanes.specs.declared.claimants.Claimants.{Claimants}
 use Rattle.lanes.specs.Blocks.{Has}
 use Rattle.lanes.specs.Claiming.{Gathered}
-use Rattle.lanes.proofs.Gathering.{gathered_none, gathered_skip, gathered_more, gathered_end}
+use Rattle.lanes.proofs.Gathering.{gathered_skip, gathered_more}
 use Rattle.lanes.proofs.claimants.Claimants.of.Goals as goal
 use Rattle.lanes.proofs.claimants.Claimants.of.Goals.{then-eq, else-eq}
-
-pub loop-r-init : goal.loop-r-init
-loop-r-init c = λ X _. gathered_none _ X _ _ c.none-claimants.ensures.lanes
 
 pub add-requires : goal.add-requires
 add-requires c = c.requires _ (placed _ _ _ c.loop-r-test.true)
@@ -25,6 +22,3 @@ loop-r-preserved c =
       | else-eq w ↦ subst Kept (sym w.claimants-is)
           (λ X h. gathered_skip _ _ X _ _ (same_false the_type _ _ (sym w.if-eq.ensures)) (c.loop-r.invariant X h))
     ]
-
-pub returns : goal.returns
-returns c = λ X h. gathered_end _ _ X _ _ (omega arith) (omega arith) (c.loop-r.invariant X h)

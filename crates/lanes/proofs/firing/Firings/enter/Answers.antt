@@ -16,17 +16,8 @@ use Rattle.lanes.proofs.LaneSets.{set_own, set_and}
 use Rattle.lanes.proofs.firing.Firings.enter.Goals as goal
 use Rattle.lanes.proofs.firing.Firings.enter.Goals.{then-live-ne0, else-live-ne0}
 
-pub push-requires-clause-room : goal.push-requires-clause-room
-push-requires-clause-room c = let r = c.requires.room in omega arith
-
-pub loop-r-init : goal.loop-r-init
-loop-r-init c = (omega arith, λ Q over n X hears b h. h)
-
 pub live-requires : goal.live-requires
 live-requires c = placed _ _ _ c.loop-r-test.true
-
-pub push-requires-then-live-ne0-clause-room : goal.push-requires-then-live-ne0-clause-room
-push-requires-then-live-ne0-clause-room c = let r = c.requires.room in let e = pushed _ _ _ c.push.ensures in let l = c.loop-r.invariant.0 in let t = c.loop-r-test.true in omega arith
 
 pub loop-r-preserved : goal.loop-r-preserved
 loop-r-preserved c =
@@ -53,14 +44,11 @@ loop-r-preserved c =
       )
     ]
 
-pub returns : goal.returns
-returns c = record {
-  few = (let l = c.loop-r.invariant.0 in let e = pushed _ _ _ c.push.ensures in omega arith);
-  holds = λ Q over n X hears b h.
-      let rs = c.args.contest.now.rules.now in
-      let m = c.args.matter in
-      enter_end Q over n X c.args.lanes rs m c.requires.matter hears.about c.loop-r.r-index _ c.loop-r-test.false
-      (c.loop-r.invariant.1 Q over n X hears b
-      (enter_default Q over n X c.args.lanes rs m c.requires.matter hears.about c.args.self.now.items.items _ _ c.push.ensures
-      (default_lanes Q over X m c.args.contest.now hears n c.args.lanes _ b (omega arith) c.unclaimed.ensures) h));
-}
+pub returns-clause-holds : goal.returns-clause-holds
+returns-clause-holds c = λ Q over n X hears b h.
+    let rs = c.args.contest.now.rules.now in
+    let m = c.args.matter in
+    enter_end Q over n X c.args.lanes rs m c.requires.matter hears.about c.loop-r.r-index _ c.loop-r-test.false
+    (c.loop-r.invariant.1 Q over n X hears b
+    (enter_default Q over n X c.args.lanes rs m c.requires.matter hears.about c.args.self.now.items.items _ _ c.push.ensures
+    (default_lanes Q over X m c.args.contest.now hears n c.args.lanes _ b (omega arith) c.unclaimed.ensures) h))
