@@ -31,15 +31,6 @@ abbrev pub Partly : List Rule → ℕ → ℕ → Rule → Type 0
 Partly rs m i q = (q.head < m) ⊎ ((k : ℕ) × (k < i) × (get_or rs k no_rule ≡ q))
 
 module _ (Q : List Rule) (over : Overruling) (n : ℕ) (X : ℕ → LiteralSet) (w : ℕ) where
-  -- nothing is asked yet
-  pub holding_none : (f : List Firing) → f ≡ [] → HoldingTo Q over n X w 0 f
-  holding_none f empty = let e = ap length empty in record {
-    only = λ k l h. absurd (omega arith);
-    heads = λ k h. absurd (omega arith);
-    defaults = λ b l m h. absurd (omega arith);
-    rules = λ r l m h. absurd (omega arith);
-  }
-
   -- less is asked
   pub holding_less : {D D' : ℕ → Type 0} {R R' : Rule → Type 0} (f : List Firing) → ((b l : ℕ) → Mem l w → D' b → Default Q n (X l) b → D b) → ((r : Rule) (l : ℕ) → Mem l w → R' r → Live Q over (X l) r → R r) → Holding Q over n X w D R f → Holding Q over n X w D' R' f
   holding_less f p q h = record {

@@ -1,9 +1,6 @@
 use Rattle.lanes.proofs.Trying.{group_about, group_low}
 use Rattle.lanes.proofs.trial.Trial.contest.Goals as goal
 
-pub about-requires : goal.about-requires
-about-requires c = let r = c.requires.sound.1.docketed.rising c.args.matter c.requires.matter in record { matter = c.requires.matter; rising = r.0; inside = r.1 }
-
 pub among-requires : goal.among-requires
 among-requires c = group_low c.requires.sound.0 c.args.self.now c.requires.sound.1 c.args.matter _ c.requires.matter c.about.ensures
 

@@ -1,22 +1,15 @@
 use Rattle.std.proofs.Common.{◌≡◌, ℕ, length, ap, subst, arith}
-use Rattle.lanes.proofs.Founding.{holding_none}
 use Rattle.lanes.proofs.Trying.{group_room, most_matters}
 use Rattle.lanes.specs.Founding.{HoldingTo}
 use Rattle.rules.specs.Semantics.{struck}
 use Rattle.lanes.proofs.trial.Trial.firings.Goals as goal
 
-pub loop-matter-init : goal.loop-matter-init
-loop-matter-init c = ((let e = ap length c.none-firings.ensures in omega arith), λ P over X f. holding_none (struck P) over _ X c.args.lanes _ c.none-firings.ensures)
-
-pub contest-requires : goal.contest-requires
-contest-requires c = let m = most_matters c.requires.0 c.args.self.now c.requires.1 in let l = c.loop-matter-test.true in record { sound = c.requires; matter = omega arith }
-
-pub enter-requires : goal.enter-requires
-enter-requires c =
+pub enter-requires-clause-room : goal.enter-requires-clause-room
+enter-requires-clause-room c =
     let m = most_matters c.requires.0 c.args.self.now c.requires.1 in let l = c.loop-matter-test.true in
     let g = group_room c.requires.0 c.args.self.now c.requires.1 c.loop-matter.matter _ (omega arith) c.contest.ensures.rules in
     let e = g.0 in let r = g.1 in let i = c.loop-matter.invariant.0 in
-    record { room = omega arith; matter = omega arith }
+    omega arith
 
 pub loop-matter-preserved : goal.loop-matter-preserved
 loop-matter-preserved c =
