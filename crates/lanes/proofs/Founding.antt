@@ -14,6 +14,7 @@ use Rattle.rules.proofs.Literals.{settled_one, settled_other, ⊆_trans, meet, m
 use Rattle.steps.specs.Parts.{SetOf, Members}
 use Rattle.steps.proofs.SetOfs.{set_same}
 use Rattle.lanes.specs.declared.firing.Firing.{Firing}
+use Rattle.lanes.specs.declared.firing.Firings.{Firings}
 use Rattle.lanes.specs.Contesting.{About}
 use Rattle.lanes.specs.Firing.{no_firing, at, Follows, Lanes, Reached}
 use Rattle.lanes.specs.Firing.Follows.{by}
@@ -125,7 +126,7 @@ all_below n a h = mem_below n (2 ^ n - 1) a (let p = pow_pos n in omega arith) h
 pub below_all : (n a : ℕ) → a < n → Mem a (2 ^ n - 1)
 below_all n a h = let e : 2 ^ n - 1 - 0 ≡ 2 ^ n - 1 = omega arith in subst (Mem a) e (rest_mem n 0 a (pow_pos n) h (λ z. not_in_zero a z))
 
-pub founded_lanes : (Q : List Rule) (over : Overruling) (n : ℕ) (X : ℕ → LiteralSet) (w v : ℕ) (f : List Firing) (words : List ℕ) → w < 2 ^ 64 → HoldingTo Q over n X w n f → Reached f words
+pub founded_lanes : (Q : List Rule) (over : Overruling) (n : ℕ) (X : ℕ → LiteralSet) (w v : ℕ) (f : Firings) (words : List ℕ) → w < 2 ^ 64 → HoldingTo Q over n X w n f.items.items → Reached f.items.items words
     → SetOf v (λ l. (l < 64) × ((j : ℕ) → Mem j (2 ^ n - 1) → Mem l (get_or words j 0))) → FoundedIn Q over n X w (bit_and w v)
 founded_lanes Q over n X w v f words small h r s = record {
   firings = f;
@@ -152,7 +153,7 @@ module _ (Q : List Rule) (over : Overruling) (n : ℕ) (M : ℕ → ℕ) (w r : 
     one_sign No Yes a h k = absurd (settled_one n (M l) a (small l) k h)
 
     -- what follows is in every closed set
-    agrees : (Z : LiteralSet) → Closed (Survives Q over (settled n (M l))) (Default Q n (settled n (M l))) Z → (a : ℕ) → Follows founded.firings a l → (s : Sign) → Holds (settled n (M l)) s a → Holds Z s a
+    agrees : (Z : LiteralSet) → Closed (Survives Q over (settled n (M l))) (Default Q n (settled n (M l))) Z → (a : ℕ) → Follows founded.firings.items.items a l → (s : Sign) → Holds (settled n (M l)) s a → Holds Z s a
     agrees Z c a (by k b e m follows) s h = ⊎_elim
         (λ d.
         let q : d.0 ≡ a = d.2.0 ∙ sym e in

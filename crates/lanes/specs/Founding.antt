@@ -3,6 +3,7 @@ use Rattle.std.specs.Prelude.{◌≡◌, ℕ, ◌<◌, ◌⊎◌, List, length, 
 use Rattle.rules.specs.declared.rule.Rule.{Rule}
 use Rattle.rules.specs.Semantics.{Mem, LiteralSet, ◌⊆◌, body, Overruling, Survives, Default}
 use Rattle.lanes.specs.declared.firing.Firing.{Firing}
+use Rattle.lanes.specs.declared.firing.Firings.{Firings}
 use Rattle.steps.specs.Parts.{SetOf}
 use Rattle.lanes.specs.Firing.{at, Lanes, Reached}
 
@@ -39,8 +40,8 @@ HoldingTo Q over n X w a f = Holding Q over n X w (λ b. b < a) (λ r. r.head < 
 
 -- r has the lanes of w in which the literals of all n matters are reached from the defaults by the live rules
 pub record FoundedIn (Q : List Rule) (over : Overruling) (n : ℕ) (X : ℕ → LiteralSet) (w r : ℕ) : Type 0 where
-  pub firings : List Firing
-  pub holding : HoldingTo Q over n X w n firings
+  pub firings : Firings
+  pub holding : HoldingTo Q over n X w n firings.items.items
   pub words : List ℕ
-  pub reached : Reached firings words
+  pub reached : Reached firings.items.items words
   pub lanes : SetOf r (λ l. Mem l w × ((a : ℕ) → a < n → Lanes words a l))

@@ -1,4 +1,4 @@
-use Rattle.std.proofs.Common.{◌≡◌, ℕ, length, ap, subst, arith}
+use Rattle.std.proofs.Common.{◌≡◌, ℕ, subst, arith}
 use Rattle.lanes.proofs.Trying.{group_room, most_matters}
 use Rattle.lanes.specs.Founding.{HoldingTo}
 use Rattle.rules.specs.Semantics.{struck}

@@ -18,5 +18,5 @@ pub returns : goal.returns
 returns c = λ P over X f.
     let m = most_matters P c.args.self.now f.sound in
     let e = one_shl c.args.self.now.matters 32 (omega arith) in
-    founded_lanes _ over _ X c.args.lanes c.all_of.result c.firings-firings.result.items.items c.reach-reach.result.words (omega arith) (c.firings-firings.ensures P over X f) c.reach-reach.ensures
+    founded_lanes _ over _ X c.args.lanes c.all_of.result c.firings-firings.result c.reach-reach.result.words (omega arith) (c.firings-firings.ensures P over X f) c.reach-reach.ensures
     (subst (λ (x : ℕ). SetOf c.all_of.result (λ l. (l < 64) × ((j : ℕ) → Mem j (x - 1) → Mem l (get_or c.reach-reach.result.words j 0)))) e c.all_of.ensures)
