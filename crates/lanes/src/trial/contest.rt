@@ -11,7 +11,7 @@ use crate::trial::Trial;
 
 impl Trial {
     // The contest about a matter.
-    pub fn contest<'a>(&'a self, block: &'a Block, matter: u8) -> Contest<'a>
+    pub(crate) fn contest<'a>(&'a self, block: &'a Block, matter: u8) -> Contest<'a>
         requires sound { (P : List SomeRule) × Sound P self.now }
         requires matter { matter < 16 }
         ensures rules { result.rules.now ≡ group self.now.docket matter }
