@@ -3,7 +3,7 @@ ghost use Rattle.std.specs.Iterator.{YieldsFirst, item_count};
 ghost use Rattle.lanes.specs.Members.{member_list};
 
 // Gives the members of a set, from the lowest up.
-#[derive(Clone, Copy)]
+#[derive(Drop)]
 pub struct Members {
     rest: u32,
 }
