@@ -4,7 +4,7 @@ use lib.Bits.{bit_and}
 use Rattle.rules.specs.declared.rule.Rule.{Rule}
 use Rattle.rules.specs.declared.rule.Sign.TheVariants.{Yes, No}
 use Rattle.rules.specs.Semantics.{Mem, LiteralSet, ◌⊆◌, body}
-use Rattle.rules.proofs.Bitwise.{mem_cases, mem_and, mem_and_left, mem_below, not_in_zero}
+use Rattle.rules.proofs.Bitwise.{mem_cases, mem_and, mem_and_left, mem_below}
 use Rattle.steps.specs.Parts.{SetOf}
 use Rattle.steps.proofs.SetOfs.{set_same}
 use Rattle.lanes.specs.declared.block.Block.{Block}
@@ -16,13 +16,6 @@ abbrev pub Together : Prim.Native.Nat.ℕ → mathlib.Core.List.List ℕ → ℕ
 Together chosen words l = (l < 64) × ((j : ℕ) → Mem j chosen → Mem l (get_or words j 0))
 
 module _ (X : ℕ → LiteralSet) (b : Block) (r : Rule) (has : Has X b) where
-  -- where `some` lacks a literal of the body, no lane has it
-  pub body_nowhere : (body r ⊆ b.some → ⊥) → SetOf 0 (λ l. (l < 64) × (body r ⊆ X l))
-  body_nowhere f = record {
-    all = λ l w. absurd (f (record { each = λ s a p. has.any s a l w.0 (w.1.each s a p) }));
-    only = λ l h. absurd (not_in_zero l h);
-  }
-
   pub body_lanes : (y n : ℕ) → r.yes < 2 ^ 16 → r.no < 2 ^ 16 → body r ⊆ b.some
       → SetOf y (Together (bit_and r.yes b.varying) b.yes) → SetOf n (Together (bit_and r.no b.varying) b.no)
       → SetOf (bit_and y n) (λ l. (l < 64) × (body r ⊆ X l))

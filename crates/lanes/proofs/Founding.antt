@@ -1,7 +1,8 @@
 -- Entering firings, and what is reached by them.
-use Rattle.std.proofs.Common.{◌≡◌, ℕ, ◌+◌, ◌-◌, ◌/◌, ◌%◌, ◌^◌, ◌<◌, ◌≤◌, eqb, ◌⊎◌, List, length, get_or, set, sym, refl, ap, ◌∙◌, subst, inl, inr, ⊎_elim, arith, get_or-set_other, get_or-set_same, pow_pos}
+use Rattle.std.proofs.Common.{◌≡◌, ℕ, ◌+◌, ◌-◌, ◌/◌, ◌%◌, ◌^◌, ◌<◌, ◌≤◌, eqb, ◌⊎◌, List, [], ◌∷◌, ◌++◌, length, get_or, sym, refl, ap, ◌∙◌, subst, inl, inr, ⊎_elim, arith, pow_pos}
 use lib.Bits.{bit_and, bit_or}
 use Rattle.std.proofs.lemmas.Bool.{cases_lt, eqb-true, eq-eqb}
+use Rattle.std.proofs.lemmas.List.{get_or_append_left, get_or_push, length_push}
 use Rattle.rules.specs.declared.rule.Rule.{Rule}
 use Rattle.rules.specs.declared.rule.Sign.{Sign}
 use Rattle.rules.specs.declared.rule.Sign.TheVariants.{Yes, No}
@@ -15,25 +16,24 @@ use Rattle.steps.proofs.SetOfs.{set_same}
 use Rattle.lanes.specs.declared.firing.Firing.{Firing}
 use Rattle.lanes.specs.declared.firing.Firings.{Firings}
 use Rattle.lanes.specs.Contesting.{About}
-use Rattle.lanes.specs.Firing.{no_firing, at, Follows, Lanes, Reached, Low}
+use Rattle.lanes.specs.Firing.{no_firing, at, Follows, Lanes, Reached}
 use Rattle.lanes.specs.Firing.Follows.{by}
 use Rattle.lanes.specs.Founding.{OfDefault, OfRule, Live, Reason, Entry, Holding, HoldingTo, FoundedIn}
 use Rattle.lanes.specs.Settling.{Stands}
 use Rattle.lanes.proofs.LaneSets.{set_own, set_and}
 use Rattle.lanes.proofs.Settling.{stands_closed}
 
-module _ (Q : List Rule) (over : Overruling) (n : ℕ) (X : ℕ → LiteralSet) (w : ℕ) where
-  -- nothing is asked yet
-  pub holding_none : (f : Firings) → f.len ≡ 0 → HoldingTo Q over n X w 0 f
-  holding_none f e = record {
-    only = λ k l h. absurd (omega arith);
-    heads = λ k h. absurd (omega arith);
-    defaults = λ b l m h. absurd (omega arith);
-    rules = λ r l m h. absurd (omega arith);
-  }
+-- a push adds one
+pub pushed : (f g : List Firing) (x : Firing) → g ≡ f ++ x ∷ [] → length g ≡ length f + 1
+pushed f g x e = ap length e ∙ length_push f x
 
+-- about an earlier matter than m, or one of the first i rules
+abbrev pub Partly : List Rule → ℕ → ℕ → Rule → Type 0
+Partly rs m i q = (q.head < m) ⊎ ((k : ℕ) × (k < i) × (get_or rs k no_rule ≡ q))
+
+module _ (Q : List Rule) (over : Overruling) (n : ℕ) (X : ℕ → LiteralSet) (w : ℕ) where
   -- less is asked
-  pub holding_less : {D D' : ℕ → Type 0} {R R' : Rule → Type 0} (f : Firings) → ((b l : ℕ) → Mem l w → D' b → Default Q n (X l) b → D b) → ((r : Rule) (l : ℕ) → Mem l w → R' r → Live Q over (X l) r → R r) → Holding Q over n X w D R f → Holding Q over n X w D' R' f
+  pub holding_less : {D D' : ℕ → Type 0} {R R' : Rule → Type 0} (f : List Firing) → ((b l : ℕ) → Mem l w → D' b → Default Q n (X l) b → D b) → ((r : Rule) (l : ℕ) → Mem l w → R' r → Live Q over (X l) r → R r) → Holding Q over n X w D R f → Holding Q over n X w D' R' f
   holding_less f p q h = record {
     only = h.only;
     heads = h.heads;
@@ -42,57 +42,56 @@ module _ (Q : List Rule) (over : Overruling) (n : ℕ) (X : ℕ → LiteralSet) 
   }
 
   -- one firing more
-  pub holding_push : {D D' : ℕ → Type 0} {R R' : Rule → Type 0} (f g : Firings) (x : Firing) → f.len < 272 → g.items ≡ set f.items f.len x → g.len ≡ f.len + 1
+  pub holding_push : {D D' : ℕ → Type 0} {R R' : Rule → Type 0} (f g : List Firing) (x : Firing) → g ≡ f ++ x ∷ []
       → x.head < 16 → ((l : ℕ) → Mem l x.lanes → Mem l w × Reason Q over n (X l) x)
       → ((b l : ℕ) → Mem l w → D' b → Default Q n (X l) b → (D b) ⊎ (Mem l x.lanes × OfDefault b x))
       → ((r : Rule) (l : ℕ) → Mem l w → R' r → Live Q over (X l) r → (R r) ⊎ (Mem l x.lanes × OfRule r x))
       → Holding Q over n X w D R f → Holding Q over n X w D' R' g
-  holding_push f g x room items len low why p q h = record {
+  holding_push f g x items low why p q h = let len = pushed_len in record {
     only = λ k l b m. ⊎_elim
         (λ c. subst (λ (y : Firing). Mem l w × Reason Q over n (X l) y) (sym (older k c)) (h.only k l c (subst (λ (y : Firing). Mem l y.lanes) (older k c) m)))
-        (λ c. let e : k ≡ f.len = omega arith in let z = ap (at g) e ∙ newest in subst (λ (y : Firing). Mem l w × Reason Q over n (X l) y) (sym z) (why l (subst (λ (y : Firing). Mem l y.lanes) z m)))
-        (cases_lt k f.len);
+        (λ c. let e : k ≡ length f = omega arith in let z = ap (at g) e ∙ newest in subst (λ (y : Firing). Mem l w × Reason Q over n (X l) y) (sym z) (why l (subst (λ (y : Firing). Mem l y.lanes) z m)))
+        (cases_lt k (length f));
     heads = λ k b. ⊎_elim
         (λ c. subst (λ (y : Firing). y.head < 16) (sym (older k c)) (h.heads k c))
-        (λ c. let e : k ≡ f.len = omega arith in subst (λ (y : Firing). y.head < 16) (sym (ap (at g) e ∙ newest)) low)
-        (cases_lt k f.len);
+        (λ c. let e : k ≡ length f = omega arith in subst (λ (y : Firing). y.head < 16) (sym (ap (at g) e ∙ newest)) low)
+        (cases_lt k (length f));
     defaults = λ b l m d y. ⊎_elim (λ o. keep l (OfDefault b) (h.defaults b l m o y)) (λ o. new l (OfDefault b) o.0 o.1) (p b l m d y);
     rules = λ r l m d y. ⊎_elim (λ o. keep l (OfRule r) (h.rules r l m o y)) (λ o. new l (OfRule r) o.0 o.1) (q r l m d y);
   }
     where
-      newest : at g f.len ≡ x
-      newest = let e = f.whole in ap (λ (xs : List Firing). get_or xs f.len no_firing) items ∙ get_or-set_same f.items f.len x no_firing (omega arith)
+      pushed_len : length g ≡ length f + 1
+      pushed_len = pushed f g x items
 
-      older : (k : ℕ) → k < f.len → at g k ≡ at f k
-      older k c = ap (λ (xs : List Firing). get_or xs k no_firing) items ∙ get_or-set_other f.items f.len k x no_firing (omega arith)
+      newest : at g (length f) ≡ x
+      newest = ap (λ (xs : List Firing). get_or xs (length f) no_firing) items ∙ get_or_push f x no_firing (length f) refl
+
+      older : (k : ℕ) → k < length f → at g k ≡ at f k
+      older k c = ap (λ (xs : List Firing). get_or xs k no_firing) items ∙ get_or_append_left f (x ∷ []) no_firing k c
 
       keep : (l : ℕ) (of : Firing → Type 0) → Entry f l of → Entry g l of
-      keep l of e = (e.0, (let c = e.1 in omega arith), subst (λ (y : Firing). Mem l y.lanes) (sym (older e.0 e.1)) e.2, subst of (sym (older e.0 e.1)) e.3)
+      keep l of e = (e.0, (let c = e.1 in let len = pushed_len in omega arith), subst (λ (y : Firing). Mem l y.lanes) (sym (older e.0 e.1)) e.2, subst of (sym (older e.0 e.1)) e.3)
 
       new : (l : ℕ) (of : Firing → Type 0) → Mem l x.lanes → of x → Entry g l of
-      new l of m o = (f.len, omega arith, subst (λ (y : Firing). Mem l y.lanes) (sym newest) m, subst of (sym newest) o)
+      new l of m o = (length f, (let len = pushed_len in omega arith), subst (λ (y : Firing). Mem l y.lanes) (sym newest) m, subst of (sym newest) o)
 
   -- The rules about one matter
 
   module _ (rs : List Rule) (m : ℕ) (low : m < 16) (about : Members rs (About Q m)) where
-    -- about an earlier matter, or one of the first i rules
-    abbrev pub Partly : ℕ → Rule → Type 0
-    Partly i q = (q.head < m) ⊎ ((k : ℕ) × (k < i) × (get_or rs k no_rule ≡ q))
-
-    pub enter_default : (f g : Firings) (v : ℕ) → f.len < 272 → g.items ≡ set f.items f.len (record { head = m; needs = 0; lanes = v }) → g.len ≡ f.len + 1
-        → SetOf v (λ l. Mem l w × Default Q n (X l) m) → HoldingTo Q over n X w m f → Holding Q over n X w (λ b. b < m + 1) (Partly 0) g
-    enter_default f g v room items len s h = holding_push f g (record { head = m; needs = 0; lanes = v }) room items len low
+    pub enter_default : (f g : List Firing) (v : ℕ) → g ≡ f ++ (record { head = m; needs = 0; lanes = v }) ∷ []
+        → SetOf v (λ l. Mem l w × Default Q n (X l) m) → HoldingTo Q over n X w m f → Holding Q over n X w (λ b. b < m + 1) (Partly rs m 0) g
+    enter_default f g v items s h = holding_push f g (record { head = m; needs = 0; lanes = v }) items low
         (λ l k. let d = s.only l k in (d.0, inl (m, d.1, (refl, refl))))
         (λ b l k c d. ⊎_elim (λ e. inl e) (λ e. let q : b ≡ m = omega arith in inr (s.all l (k, subst (Default Q n (X l)) q d), (q, refl))) (cases_lt b m))
         (λ r l k c d. ⊎_elim (λ e. inl e) (λ e. let z = e.1 in absurd (omega arith)) c)
         h
 
-    pub enter_rule : (i : ℕ) (f g : Firings) (v : ℕ) → i < length rs → f.len < 272 → g.items ≡ set f.items f.len (record { head = m; needs = bit_or (get_or rs i no_rule).yes (get_or rs i no_rule).no; lanes = v }) → g.len ≡ f.len + 1
-        → SetOf v (λ l. Mem l w × Live Q over (X l) (get_or rs i no_rule)) → Holding Q over n X w (λ b. b < m + 1) (Partly i) f → Holding Q over n X w (λ b. b < m + 1) (Partly (i + 1)) g
-    enter_rule i f g v inside room items len s h =
+    pub enter_rule : (i : ℕ) (f g : List Firing) (v : ℕ) → i < length rs → g ≡ f ++ (record { head = m; needs = bit_or (get_or rs i no_rule).yes (get_or rs i no_rule).no; lanes = v }) ∷ []
+        → SetOf v (λ l. Mem l w × Live Q over (X l) (get_or rs i no_rule)) → Holding Q over n X w (λ b. b < m + 1) (Partly rs m i) f → Holding Q over n X w (λ b. b < m + 1) (Partly rs m (i + 1)) g
+    enter_rule i f g v inside items s h =
         let r = get_or rs i no_rule in
         let head_is = (about.only r (placed rs i no_rule inside)).1 in
-        holding_push f g (record { head = m; needs = bit_or r.yes r.no; lanes = v }) room items len low
+        holding_push f g (record { head = m; needs = bit_or r.yes r.no; lanes = v }) items low
         (λ l k. let d = s.only l k in (d.0, inr (r, d.1, (head_is, refl))))
         (λ b l k c d. inl c)
         (λ q l k c d. ⊎_elim (λ e. inl (inl e)) (λ e. ⊎_elim
@@ -102,7 +101,7 @@ module _ (Q : List Rule) (over : Overruling) (n : ℕ) (X : ℕ → LiteralSet) 
         (cases_lt e.0 i)) c)
         h
 
-    pub skip_rule : (i : ℕ) (f : Firings) (v : ℕ) → v ≡ 0 → SetOf v (λ l. Mem l w × Live Q over (X l) (get_or rs i no_rule)) → Holding Q over n X w (λ b. b < m + 1) (Partly i) f → Holding Q over n X w (λ b. b < m + 1) (Partly (i + 1)) f
+    pub skip_rule : (i : ℕ) (f : List Firing) (v : ℕ) → v ≡ 0 → SetOf v (λ l. Mem l w × Live Q over (X l) (get_or rs i no_rule)) → Holding Q over n X w (λ b. b < m + 1) (Partly rs m i) f → Holding Q over n X w (λ b. b < m + 1) (Partly rs m (i + 1)) f
     skip_rule i f v zero s h = holding_less f
         (λ b l k c d. c)
         (λ q l k c d. ⊎_elim (λ e. inl e) (λ e. ⊎_elim
@@ -112,7 +111,7 @@ module _ (Q : List Rule) (over : Overruling) (n : ℕ) (X : ℕ → LiteralSet) 
         (cases_lt e.0 i)) c)
         h
 
-    pub enter_end : (i : ℕ) (f : Firings) → length rs ≤ i → Holding Q over n X w (λ b. b < m + 1) (Partly i) f → HoldingTo Q over n X w (m + 1) f
+    pub enter_end : (i : ℕ) (f : List Firing) → length rs ≤ i → Holding Q over n X w (λ b. b < m + 1) (Partly rs m i) f → HoldingTo Q over n X w (m + 1) f
     enter_end i f done h = holding_less f
         (λ b l k c d. c)
         (λ q l k c d. ⊎_elim
@@ -121,17 +120,13 @@ module _ (Q : List Rule) (over : Overruling) (n : ℕ) (X : ℕ → LiteralSet) 
         (cases_lt q.head m))
         h
 
--- every firing is about a matter, and has lanes
-pub holding_low : (Q : List Rule) (over : Overruling) (n : ℕ) (X : ℕ → LiteralSet) (w : ℕ) {D : ℕ → Type 0} {R : Rule → Type 0} {f : Firings} → w < 2 ^ 64 → Holding Q over n X w D R f → Low f
-holding_low Q over n X w small h = record { heads = h.heads; lanes = λ k l b m. mem_below 64 w l small (h.only k l b m).0 }
-
 pub all_below : (n a : ℕ) → Mem a (2 ^ n - 1) → a < n
 all_below n a h = mem_below n (2 ^ n - 1) a (let p = pow_pos n in omega arith) h
 
 pub below_all : (n a : ℕ) → a < n → Mem a (2 ^ n - 1)
 below_all n a h = let e : 2 ^ n - 1 - 0 ≡ 2 ^ n - 1 = omega arith in subst (Mem a) e (rest_mem n 0 a (pow_pos n) h (λ z. not_in_zero a z))
 
-pub founded_lanes : (Q : List Rule) (over : Overruling) (n : ℕ) (X : ℕ → LiteralSet) (w v : ℕ) (f : Firings) (words : List ℕ) → w < 2 ^ 64 → HoldingTo Q over n X w n f → Reached f words
+pub founded_lanes : (Q : List Rule) (over : Overruling) (n : ℕ) (X : ℕ → LiteralSet) (w v : ℕ) (f : Firings) (words : List ℕ) → w < 2 ^ 64 → HoldingTo Q over n X w n f.items.items → Reached f.items.items words
     → SetOf v (λ l. (l < 64) × ((j : ℕ) → Mem j (2 ^ n - 1) → Mem l (get_or words j 0))) → FoundedIn Q over n X w (bit_and w v)
 founded_lanes Q over n X w v f words small h r s = record {
   firings = f;
@@ -158,7 +153,7 @@ module _ (Q : List Rule) (over : Overruling) (n : ℕ) (M : ℕ → ℕ) (w r : 
     one_sign No Yes a h k = absurd (settled_one n (M l) a (small l) k h)
 
     -- what follows is in every closed set
-    agrees : (Z : LiteralSet) → Closed (Survives Q over (settled n (M l))) (Default Q n (settled n (M l))) Z → (a : ℕ) → Follows founded.firings a l → (s : Sign) → Holds (settled n (M l)) s a → Holds Z s a
+    agrees : (Z : LiteralSet) → Closed (Survives Q over (settled n (M l))) (Default Q n (settled n (M l))) Z → (a : ℕ) → Follows founded.firings.items.items a l → (s : Sign) → Holds (settled n (M l)) s a → Holds Z s a
     agrees Z c a (by k b e m follows) s h = ⊎_elim
         (λ d.
         let q : d.0 ≡ a = d.2.0 ∙ sym e in

@@ -1,5 +1,5 @@
 -- How the claimants of a literal are gathered, rule by rule.
-use Rattle.std.proofs.Common.{◌≡◌, ℕ, ◌+◌, ◌*◌, ◌%◌, ◌^◌, ◌<◌, ◌≤◌, ◌⊎◌, List, length, get_or, set, replicate, sym, refl, ap, ◌∙◌, subst, inl, inr, ⊎_elim, arith, get_or-set_other, get_or-set_same}
+use Rattle.std.proofs.Common.{◌≡◌, ℕ, ◌+◌, ◌*◌, ◌%◌, ◌^◌, ◌<◌, ◌⊎◌, List, length, get_or, set, replicate, sym, refl, ap, ◌∙◌, subst, inl, inr, ⊎_elim, arith, get_or-set_other, get_or-set_same}
 use lib.Bits.{bit_and, bit_or}
 use Rattle.std.proofs.lemmas.Nat.{one_shl}
 use Rattle.std.proofs.lemmas.Bool.{cases_lt, cases_eq}
@@ -7,25 +7,14 @@ use Rattle.rules.specs.declared.rule.Rule.{Rule}
 use Rattle.rules.specs.declared.rule.Sign.{Sign}
 use Rattle.rules.specs.Parts.{no_rule}
 use Rattle.rules.specs.Semantics.{Mem, LiteralSet, ◌⊆◌, body}
-use Rattle.rules.proofs.Bitwise.{mem_and, mem_and_right, mem_or_left, mem_or_right, mem_or_cases, mem_one, mem_one_is, not_in_zero}
+use Rattle.rules.proofs.Bitwise.{mem_and, mem_and_right, mem_or_left, mem_or_right, mem_or_cases, mem_one, not_in_zero}
 use Rattle.steps.specs.Parts.{SetOf}
 use Rattle.steps.proofs.SetOfs.{set_same, zero_at}
 use Rattle.lanes.specs.declared.claimants.Claimants.{Claimants}
-use Rattle.lanes.specs.Claiming.{Asserted, Gathered, Noted, Added, Among}
+use Rattle.lanes.specs.Claiming.{Asserted, Gathered, Added, Among}
 
-pub noted_none : (c : Claimants) → c.lanes ≡ replicate 32 0 → c.sheets ≡ 0 → Noted c
-noted_none c e z = record {
-  noted = λ j l h. absurd (not_in_zero l (subst (Mem l) (ap (λ (xs : List ℕ). get_or xs j 0) e ∙ zero_at 32 j) h));
-  low = λ j h. absurd (not_in_zero j (subst (Mem j) z h));
-}
-
-pub gathered_none : (rs : List Rule) (X : ℕ → LiteralSet) (s : Sign) (c : Claimants) → c.lanes ≡ replicate 32 0 → Gathered rs 0 X s c
-gathered_none rs X s c e = record {
-  lanes = λ j _. record {
-    all = λ l w. let h = w.1.1 in absurd (omega arith);
-    only = λ l h. absurd (not_in_zero l (subst (Mem l) (ap (λ (xs : List ℕ). get_or xs j 0) e ∙ zero_at 32 j) h));
-  };
-}
+pub noted_none : (j l : ℕ) → Mem l (get_or (replicate 32 0) j 0) → Mem j 0
+noted_none j l h = absurd (not_in_zero l (subst (Mem l) (zero_at 32 j) h))
 
 -- a rule of the other sign changes nothing
 pub gathered_skip : (rs : List Rule) (i : ℕ) (X : ℕ → LiteralSet) (s : Sign) (c : Claimants) → ((get_or rs i no_rule).sign ≡ s → ⊥) → Gathered rs i X s c → Gathered rs (i + 1) X s c
@@ -76,38 +65,26 @@ gathered_more rs i X s c d w e body-set add g = record {
         (cases_lt v.1.0 i))
         add.here
 
--- nothing is added where there is no lane
-pub added_none : (j w : ℕ) (c : Claimants) → w ≡ 0 → Added j w c c
-added_none j w c z = record {
-  here = record { all = λ l. ⊎_elim (λ m. m) (λ m. absurd (not_in_zero l (subst (Mem l) z m))); only = λ l m. inl m };
-  there = λ i _. refl;
-  noted = λ n. n;
-}
-
-pub added_some : (j w : ℕ) (c d : Claimants) → j < length c.lanes → j < 32 → d.sheets ≡ bit_or c.sheets (1 * 2 ^ j % 4294967296) → d.lanes ≡ set c.lanes j (bit_or (get_or c.lanes j 0) w) → Added j w c d
-added_some j w c d long low e f =
+pub added_some : (j w : ℕ) (c d : Claimants) → j < length c.lanes → d.lanes ≡ set c.lanes j (bit_or (get_or c.lanes j 0) w) → Added j w c d
+added_some j w c d long f =
     let own = get_or c.lanes j 0 in
     let at : get_or d.lanes j 0 ≡ bit_or own w = ap (λ (xs : List ℕ). get_or xs j 0) f ∙ get_or-set_same c.lanes j (bit_or own w) 0 long in
     let other : (i : ℕ) → (i ≡ j → ⊥) → get_or d.lanes i 0 ≡ get_or c.lanes i 0 = λ i ne. ap (λ (xs : List ℕ). get_or xs i 0) f ∙ get_or-set_other c.lanes j i (bit_or own w) 0 ne in
-    let g : d.sheets ≡ bit_or c.sheets (2 ^ j) = e ∙ ap (bit_or c.sheets) (one_shl j 32 low) in
     record {
       here = subst (λ (x : ℕ). SetOf x (λ l. Mem l own ⊎ Mem l w)) (sym at) (record { all = λ l. ⊎_elim (λ m. mem_or_left l own w m) (λ m. mem_or_right l own w m); only = λ l m. mem_or_cases l own w m });
       there = other;
-      noted = λ n. record {
-        noted = λ i l h. subst (Mem i) (sym g) (⊎_elim
-            (λ q. mem_or_right i c.sheets (2 ^ j) (subst (λ (x : ℕ). Mem x (2 ^ j)) (sym q) (mem_one j)))
-            (λ ne. mem_or_left i c.sheets (2 ^ j) (n.noted i l (subst (Mem l) (other i ne) h)))
-            (cases_eq i j));
-        low = λ i h. ⊎_elim (λ m. n.low i m) (λ m. let q = mem_one_is j i m in omega arith) (mem_or_cases i c.sheets (2 ^ j) (subst (Mem i) g h));
-      };
     }
 
--- of the noted sheets, those of a set
-pub among_set : (c : Claimants) (chosen r : ℕ) → Noted c → SetOf r (λ l. (j : ℕ) × Mem j (bit_and c.sheets chosen) × Mem l (get_or c.lanes j 0)) → SetOf r (Among c chosen)
-among_set c chosen r n s = set_same
-    (λ l w. (w.0, mem_and_right w.0 c.sheets chosen w.1, w.2))
-    (λ l w. (w.0, mem_and w.0 c.sheets chosen (n.noted w.0 l w.2) w.1, w.2))
-    s
+-- a sheet that gets lanes is noted too
+pub noted_more : (j w : ℕ) (c : Claimants) → j < length c.lanes → j < 32 → (i l : ℕ) → Mem l (get_or (set c.lanes j (bit_or (get_or c.lanes j 0) w)) i 0) → Mem i (bit_or c.sheets (1 * 2 ^ j % 4294967296))
+noted_more j w c long low i l h = subst (λ (x : ℕ). Mem i (bit_or c.sheets x)) (sym (one_shl j 32 low)) (⊎_elim
+    (λ q. mem_or_right i c.sheets (2 ^ j) (subst (λ (x : ℕ). Mem x (2 ^ j)) (sym q) (mem_one j)))
+    (λ ne. mem_or_left i c.sheets (2 ^ j) (c.noted i l (subst (Mem l) (get_or-set_other c.lanes j i (bit_or (get_or c.lanes j 0) w) 0 ne) h)))
+    (cases_eq i j))
 
-pub gathered_end : (rs : List Rule) (i : ℕ) (X : ℕ → LiteralSet) (s : Sign) (c : Claimants) → i ≤ length rs → length rs ≤ i → Gathered rs i X s c → Gathered rs (length rs) X s c
-gathered_end rs i X s c p q g = let e : i ≡ length rs = omega arith in subst (λ (k : ℕ). Gathered rs k X s c) e g
+-- of the noted sheets, those of a set
+pub among_set : (c : Claimants) (chosen r : ℕ) → SetOf r (λ l. (j : ℕ) × Mem j (bit_and c.sheets chosen) × Mem l (get_or c.lanes j 0)) → SetOf r (Among c chosen)
+among_set c chosen r s = set_same
+    (λ l w. (w.0, mem_and_right w.0 c.sheets chosen w.1, w.2))
+    (λ l w. (w.0, mem_and w.0 c.sheets chosen (c.noted w.0 l w.2) w.1, w.2))
+    s

@@ -103,10 +103,10 @@ pub record Both (M : ℕ → ℕ) (n : ℕ) (b : Block) : Type 0 where
   pub yes_half : Half (λ a l. Mem a (M l)) n b.yes b.some.0 b.varying
   pub no_half : Half (Lacks M) n b.no b.some.1 b.varying
 
-pub both_start : (M : ℕ → ℕ) (b : Block) → (b.yes ≡ replicate 16 0) × (b.no ≡ replicate 16 0) × (b.some ≡ (0, 0)) × (b.varying ≡ 0) → Both M 0 b
-both_start M b e = record {
-  yes_half = half_start (λ a l. Mem a (M l)) b.yes b.some.0 b.varying e.0 (ap (λ (x : LiteralSet). x.0) e.2) e.3;
-  no_half = half_start (Lacks M) b.no b.some.1 b.varying e.1 (ap (λ (x : LiteralSet). x.1) e.2) e.3;
+pub both_start : (M : ℕ → ℕ) (b : Block) → b.yes ≡ replicate 16 0 → b.no ≡ replicate 16 0 → b.some ≡ (0, 0) → b.varying ≡ 0 → Both M 0 b
+both_start M b held denied some varying = record {
+  yes_half = half_start (λ a l. Mem a (M l)) b.yes b.some.0 b.varying held (ap (λ (x : LiteralSet). x.0) some) varying;
+  no_half = half_start (Lacks M) b.no b.some.1 b.varying denied (ap (λ (x : LiteralSet). x.1) some) varying;
 }
 
 full_word : {T : ℕ → Type 0} → ((l : ℕ) → l < 64 → T l) → SetOf 18446744073709551615 (λ l. (l < 64) × T l)

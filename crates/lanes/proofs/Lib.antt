@@ -1,4 +1,5 @@
 pub mod Lowest
+pub mod MemberLists
 pub mod LaneSets
 pub mod Bodies
 pub mod Gathering

@@ -1,14 +1,13 @@
 -- How the firings are followed to the end.
-use Rattle.std.proofs.Common.{◌≡◌, ℕ, suc, ◌+◌, ◌*◌, ◌^◌, ◌<◌, ◌≤◌, ◌⊎◌, List, [], ◌∷◌, length, get_or, set, replicate, sym, refl, ap, ◌∙◌, subst, inl, inr, ⊎_elim, suc-mul, arith, get_or-set_other, get_or-set_same}
+use Rattle.std.proofs.Common.{◌≡◌, ℕ, suc, ◌+◌, ◌*◌, ◌^◌, ◌<◌, ◌≤◌, ◌⊎◌, List, [], ◌∷◌, ◌++◌, length, get_or, set, sym, refl, ap, ◌∙◌, subst, inl, inr, ⊎_elim, suc-mul, arith, get_or-set_other, get_or-set_same}
 use lib.Bits.{bit_and, bit_or}
 use Rattle.std.proofs.lemmas.Bool.{cases_lt, cases_eq}
+use Rattle.std.proofs.lemmas.List.{get_or_append_left, get_or_push, length_push}
 use Rattle.rules.specs.Semantics.{Mem}
-use Rattle.rules.proofs.Bitwise.{mem_and, mem_and_left, mem_and_right, mem_or_left, mem_or_right, mem_or_cases, not_in_zero, within_le, below_from_members}
+use Rattle.rules.proofs.Bitwise.{mem_and, mem_and_left, mem_and_right, mem_or_left, mem_or_right, mem_or_cases, within_le, below_from_members, mem_below}
 use Rattle.steps.specs.Parts.{SetOf}
-use Rattle.steps.proofs.SetOfs.{zero_at}
 use Rattle.lanes.specs.declared.firing.Firing.{Firing}
-use Rattle.lanes.specs.declared.firing.Firings.{Firings}
-use Rattle.lanes.specs.Firing.{at, Follows, Lanes, Comes, Rounded, Reached, Low, Fired}
+use Rattle.lanes.specs.Firing.{no_firing, at, Follows, Lanes, Comes, Rounded, Low, Fired}
 use Rattle.lanes.specs.Firing.Follows.{by}
 
 -- One firing
@@ -35,12 +34,26 @@ fired_one x old new w h s e =
           (cases_eq a x.head);
     }
 
+-- The firings are low
+
+pub low_none : Low []
+low_none = record { heads = λ k h. absurd (omega arith); lanes = λ k l h. absurd (omega arith) }
+
+pub low_push : (f : List Firing) (x : Firing) → x.head < 16 → x.lanes < 2 ^ 64 → Low f → Low (f ++ x ∷ [])
+low_push f x head small low = let len = length_push f x in record {
+  heads = λ k h. ⊎_elim
+      (λ c. subst (λ (y : Firing). y.head < 16) (sym (get_or_append_left f (x ∷ []) no_firing k c)) (low.heads k c))
+      (λ c. subst (λ (y : Firing). y.head < 16) (sym (get_or_push f x no_firing k (omega arith))) head)
+      (cases_lt k (length f));
+  lanes = λ k l h m. ⊎_elim
+      (λ c. low.lanes k l c (subst (λ (y : Firing). Mem l y.lanes) (get_or_append_left f (x ∷ []) no_firing k c) m))
+      (λ c. mem_below 64 x.lanes l small (subst (λ (y : Firing). Mem l y.lanes) (get_or_push f x no_firing k (omega arith)) m))
+      (cases_lt k (length f));
+}
+
 -- One round
 
-pub round_start : (f : Firings) (words : List ℕ) → Rounded f 0 words words
-round_start f words = record { keeps = λ a l m. m; fires = λ k h. absurd (omega arith); only = λ g a l m. g a l m }
-
-pub round_more : (f : Firings) (i : ℕ) (old mid new : List ℕ) → i < f.len → Low f → Rounded f i old mid → Fired (at f i) mid new → Rounded f (i + 1) old new
+pub round_more : (f : List Firing) (i : ℕ) (old mid new : List ℕ) → i < length f → Low f → Rounded f i old mid → Fired (at f i) mid new → Rounded f (i + 1) old new
 round_more f i old mid new h low r x = record {
   keeps = λ a l m. x.keeps a l (r.keeps a l m);
   fires = λ k b a l c. ⊎_elim
@@ -51,23 +64,14 @@ round_more f i old mid new h low r x = record {
   only = λ g a l m. ⊎_elim (λ o. r.only g a l o) (λ c. by i h c.0 c.1 (λ j n. r.only g j l (c.2 j n))) (x.only a l m);
 }
 
-pub round_end : (f : Firings) (i : ℕ) (old new : List ℕ) → i ≡ f.len → Rounded f i old new → Rounded f f.len old new
-round_end f i old new e r = subst (λ (k : ℕ). Rounded f k old new) e r
-
 -- To the end
 
 -- on the way, what is there follows
-abbrev pub Followed : Firings → List ℕ → Type 0
+abbrev pub Followed : List Firing → List ℕ → Type 0
 Followed f words = (a l : ℕ) → Lanes words a l → Follows f a l
 
-pub followed_start : (f : Firings) → Followed f (replicate 16 0)
-followed_start f a l m = absurd (not_in_zero l (subst (Mem l) (zero_at 16 a) m))
-
-pub reached_end : (f : Firings) (words new : List ℕ) → new ≡ words → Followed f words → Rounded f f.len words new → Reached f words
-reached_end f words new e w r = record { all = λ k h a l c. subst (λ (xs : List ℕ). Lanes xs a l) e (r.fires k h a l c); only = w }
-
 -- what follows is in a lane
-follows_low : (f : Firings) (a l : ℕ) → Low f → Follows f a l → l < 64
+follows_low : (f : List Firing) (a l : ℕ) → Low f → Follows f a l → l < 64
 follows_low f a l low (by k h e m n) = low.lanes k l h m
 
 -- each round adds to the sum of the words
@@ -96,7 +100,7 @@ sum_bound (x ∷ xs) b h =
     let m : suc (length xs) * b ≡ length xs * b + b = suc-mul (length xs) b in
     omega arith
 
-pub round_grows : (f : Firings) (old new : List ℕ) → Low f → Followed f old → Rounded f f.len old new → length old ≡ 16 → length new ≡ 16 → (new ≡ old → ⊥) → (sum old < sum new) × (sum new ≤ 16 * 2 ^ 64)
+pub round_grows : (f : List Firing) (old new : List ℕ) → Low f → Followed f old → Rounded f (length f) old new → length old ≡ 16 → length new ≡ 16 → (new ≡ old → ⊥) → (sum old < sum new) × (sum new ≤ 16 * 2 ^ 64)
 round_grows f old new low w r p q ne =
     let bounded : (a : ℕ) → get_or new a 0 < 2 ^ 64 = λ a. below_from_members 64 (get_or new a 0) (λ l m. follows_low f a l low (r.only w a l m)) in
     let s = sum_bound new (2 ^ 64) (λ a. let b = bounded a in omega arith) in

@@ -21,16 +21,10 @@ Asserted rs i X s j = (k : ℕ) × (k < i) × Asserts (slice_index_or rs k no_ru
 pub record Gathered (rs : List Rule) (i : ℕ) (X : ℕ → LiteralSet) (s : Sign) (c : Claimants) : Type 0 where
   pub lanes : (j : ℕ) → j < 32 → SetOf (slice_index c.lanes j) (λ l. (l < 64) × Asserted rs i (X l) s j)
 
--- the sheets that have a lane are noted, and they are sheets
-pub record Noted (c : Claimants) : Type 0 where
-  pub noted : (j l : ℕ) → Mem l (slice_index c.lanes j) → Mem j c.sheets
-  pub low : (j : ℕ) → Mem j c.sheets → j < 32
-
 -- d has the lanes w for sheet j besides what c has
 pub record Added (j w : ℕ) (c d : Claimants) : Type 0 where
   pub here : SetOf (slice_index d.lanes j) (λ l. Mem l (slice_index c.lanes j) ⊎ Mem l w)
   pub there : (i : ℕ) → (i ≢ j) → slice_index d.lanes i ≡ slice_index c.lanes i
-  pub noted : Noted c → Noted d
 
 -- a sheet of the set has the lane
 abbrev pub Among : Claimants → ℕ → ℕ → Type 0

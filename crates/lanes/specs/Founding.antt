@@ -1,5 +1,5 @@
 -- What the firings of a block come from: the defaults, and the rules that survive with a true body.
-use Rattle.std.specs.Prelude.{◌≡◌, ℕ, ◌<◌, ◌⊎◌, List, bit_or}
+use Rattle.std.specs.Prelude.{◌≡◌, ℕ, ◌<◌, ◌⊎◌, List, length, bit_or}
 use Rattle.rules.specs.declared.rule.Rule.{Rule}
 use Rattle.rules.specs.Semantics.{Mem, LiteralSet, ◌⊆◌, body, Overruling, Survives, Default}
 use Rattle.lanes.specs.declared.firing.Firing.{Firing}
@@ -24,24 +24,24 @@ abbrev pub Reason : List Rule → Overruling → ℕ → LiteralSet → Firing �
 Reason Q over n X x = ((b : ℕ) × Default Q n X b × OfDefault b x) ⊎ ((r : Rule) × Live Q over X r × OfRule r x)
 
 -- some firing that has the lane is of this kind
-abbrev pub Entry : Firings → ℕ → (Firing → Type 0) → Type 0
-Entry f l of = (k : ℕ) × (k < f.len) × Mem l (at f k).lanes × of (at f k)
+abbrev pub Entry : List Firing → ℕ → (Firing → Type 0) → Type 0
+Entry f l of = (k : ℕ) × (k < length f) × Mem l (at f k).lanes × of (at f k)
 
 -- in the lanes w, the firings come from the defaults and live rules in X, and those of the matters and rules named are there
-pub record Holding (Q : List Rule) (over : Overruling) (n : ℕ) (X : ℕ → LiteralSet) (w : ℕ) (matter : ℕ → Type 0) (rule : Rule → Type 0) (f : Firings) : Type 0 where
-  pub only : (k l : ℕ) → k < f.len → Mem l (at f k).lanes → Mem l w × Reason Q over n (X l) (at f k)
-  pub heads : (k : ℕ) → k < f.len → (at f k).head < 16
+pub record Holding (Q : List Rule) (over : Overruling) (n : ℕ) (X : ℕ → LiteralSet) (w : ℕ) (matter : ℕ → Type 0) (rule : Rule → Type 0) (f : List Firing) : Type 0 where
+  pub only : (k l : ℕ) → k < length f → Mem l (at f k).lanes → Mem l w × Reason Q over n (X l) (at f k)
+  pub heads : (k : ℕ) → k < length f → (at f k).head < 16
   pub defaults : (b l : ℕ) → Mem l w → matter b → Default Q n (X l) b → Entry f l (OfDefault b)
   pub rules : (r : Rule) (l : ℕ) → Mem l w → rule r → Live Q over (X l) r → Entry f l (OfRule r)
 
 -- those of the first a matters are there
-abbrev pub HoldingTo : List Rule → Overruling → ℕ → (ℕ → LiteralSet) → ℕ → ℕ → Firings → Type 0
+abbrev pub HoldingTo : List Rule → Overruling → ℕ → (ℕ → LiteralSet) → ℕ → ℕ → List Firing → Type 0
 HoldingTo Q over n X w a f = Holding Q over n X w (λ b. b < a) (λ r. r.head < a) f
 
 -- r has the lanes of w in which the literals of all n matters are reached from the defaults by the live rules
 pub record FoundedIn (Q : List Rule) (over : Overruling) (n : ℕ) (X : ℕ → LiteralSet) (w r : ℕ) : Type 0 where
   pub firings : Firings
-  pub holding : HoldingTo Q over n X w n firings
+  pub holding : HoldingTo Q over n X w n firings.items.items
   pub words : List ℕ
-  pub reached : Reached firings words
+  pub reached : Reached firings.items.items words
   pub lanes : SetOf r (λ l. Mem l w × ((a : ℕ) → a < n → Lanes words a l))

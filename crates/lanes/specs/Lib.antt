@@ -1,4 +1,5 @@
 pub mod Blocks
+pub mod Members
 pub mod Claiming
 pub mod Settling
 pub mod Contesting

@@ -14,6 +14,12 @@ pub record Sound (P : List Rule) (t : Trial) : Type 0 where
   pub docketed : Docketed P 16 t.docket
   pub whole : length t.overrulers ≡ 32
 
+-- the trial is by the rules P and the relation `over`, and the block has the sets X
+pub record Facing (P : List Rule) (over : Overruling) (X : ℕ → LiteralSet) (t : Trial) (b : Block) : Type 0 where
+  pub sound : Sound P t
+  pub tabled : Tabled over t.overrulers
+  pub has : Has X b
+
 -- the lanes of w in whose set each of the matters from i up to j stands
 abbrev pub StandFrom : List Rule → Overruling → ℕ → (ℕ → LiteralSet) → ℕ → ℕ → ℕ → ℕ → Type 0
 StandFrom P over n X i j w l = Mem l w × ((a : ℕ) → i ≤ a → a < j → Stands (struck P) over n (X l) a)

@@ -10,7 +10,8 @@ mod side;
 // The literal sets of sixty-four lanes, which differ in the varying matters alone.
 #[derive(Clone, Copy)]
 pub struct Block {
-    // For each matter: the lanes that hold it, and those that hold its negation.
+    // For each matter: the lanes that hold it, and those that hold its negation. Two arrays, and not one of pairs, since a
+    // body meets the words of one sign.
     pub yes: [u64; MOST_MATTERS],
     pub no: [u64; MOST_MATTERS],
     // The literals that some lane may hold.

@@ -1,5 +1,7 @@
-ghost use Rattle.std.specs.Prelude.{◌≡◌, ◌≤◌, length};
+ghost use Rattle.std.specs.Prelude.{◌≡◌, length};
+ghost use Rattle.lanes.specs.Firing.{Low};
 
+use arrayvec::ArrayVec;
 use rules::matters::MOST_MATTERS;
 
 pub mod calls;
@@ -7,7 +9,7 @@ pub mod closure;
 pub mod entry;
 
 // In these lanes the literal of the head follows from those of the matters that it needs.
-#[derive(Clone, Copy)]
+#[derive(Clone, Copy, Default)]
 pub struct Firing {
     pub head: u8,
     pub needs: u16,
@@ -17,16 +19,14 @@ pub struct Firing {
 // One for each rule, and one for each matter's default.
 pub const MOST_FIRINGS: usize = 272;
 
-#[derive(Clone, Copy)]
+#[derive(Drop)]
 pub struct Firings {
-    items: [Firing; MOST_FIRINGS],
-    len: usize,
-    ghost whole: { length items ≡ 272 },
-    ghost within: { len ≤ 272 },
+    items: ArrayVec<Firing, MOST_FIRINGS>,
+    ghost low: { Low items.items },
 }
 
 // For each matter the lanes in which its literal is reached.
-#[derive(Clone, Copy)]
+#[derive(Clone, Copy, PartialEq)]
 pub struct Reach {
     pub words: [u64; MOST_MATTERS],
     ghost whole: { length words ≡ 16 },

@@ -6,19 +6,23 @@ ghost use Rattle.lanes.specs.Sides.{Takes, PutAs};
 
 use crate::block::Block;
 use crate::block::side::{Side, side_of_bit};
-use rules::matters::{MOST_MATTERS, has_matter};
+use rules::matters::MOST_MATTERS;
+use rules::sets::has;
 
 impl Block {
     // Sixty-four candidates: the yes matters, each time with the part of the undecided ones that has the next number.
     pub fn of(matters: u8, yes: u16, undecided: u16, first: u32) -> Block
-        requires { (matters ≤ 16) × ((first % 64 ≡ 0) × ((((a : ℕ) → Mem a yes → Mem a undecided → ⊥)) × (((l : ℕ) → bit_or yes (part 16 undecided (first + l)) < 2 ^ matters)))) }
+        requires matters { matters ≤ 16 }
+        requires first { first % 64 ≡ 0 }
+        requires apart { (a : ℕ) → Mem a yes → Mem a undecided → ⊥ }
+        requires small { (l : ℕ) → bit_or yes (part 16 undecided (first + l)) < 2 ^ matters }
         ensures { Has (λ l. settled matters (bit_or yes (part 16 undecided (first + l)))) result }
     {
         let mut block = Block::empty();
         let mut rank = 0;
         for a in 0..matters {
             block.put(a, side_of(yes, undecided, first, a, rank));
-            if has_matter(undecided, a) {
+            if has(undecided.into(), a) {
                 rank += 1;
             }
         }
@@ -26,7 +30,10 @@ impl Block {
     }
 
     fn empty() -> Block
-        ensures { (result.yes ≡ replicate 16 0) × (result.no ≡ replicate 16 0) × (result.some ≡ (0, 0)) × (result.varying ≡ 0) }
+        ensures yes { result.yes ≡ replicate 16 0 }
+        ensures no { result.no ≡ replicate 16 0 }
+        ensures some { result.some ≡ (0, 0) }
+        ensures varying { result.varying ≡ 0 }
     {
         Block {
             yes: [0; MOST_MATTERS],
@@ -63,12 +70,15 @@ impl Block {
 
 // Which of the candidates have the matter, if it is undecided as the one of this rank.
 fn side_of(yes: u16, undecided: u16, first: u32, a: u8, rank: u8) -> Side
-    requires { (a < 16) × ((rank ≡ rank_of undecided a) × ((first % 64 ≡ 0) × ((Mem a yes → Mem a undecided → ⊥)))) }
+    requires matter { a < 16 }
+    requires rank { rank ≡ rank_of undecided a }
+    requires first { first % 64 ≡ 0 }
+    requires apart { Mem a yes → Mem a undecided → ⊥ }
     ensures { Takes result (λ l. Mem a (bit_or yes (part 16 undecided (first + l)))) }
 {
-    if has_matter(undecided, a) {
+    if has(undecided.into(), a) {
         side_of_bit(rank, first)
-    } else if has_matter(yes, a) {
+    } else if has(yes.into(), a) {
         Side::In
     } else {
         Side::Out

@@ -2,6 +2,8 @@ ghost use Rattle.std.specs.Prelude.{◌≡◌, ◌+◌, ◌%◌, ◌<◌};
 ghost use Rattle.rules.specs.Semantics.{Mem};
 ghost use Rattle.lanes.specs.Sides.{Takes};
 
+use rules::sets::has;
+
 // Which lanes hold a matter: all, none, or these.
 #[derive(Clone, Copy)]
 pub enum Side {
@@ -22,12 +24,13 @@ const LANES_WITH_BIT: [u64; 6] = [
 
 // The lanes whose number, counted on from that of the first, has the bit.
 pub fn side_of_bit(bit: u8, first: u32) -> Side
-    requires { (bit < 16) × (first % 64 ≡ 0) }
+    requires bit { bit < 16 }
+    requires first { first % 64 ≡ 0 }
     ensures { Takes result (λ l. Mem bit (first + l)) }
 {
     if bit < 6 {
         Side::Varying(LANES_WITH_BIT[bit as usize])
-    } else if (first >> bit) % 2 == 1 {
+    } else if has(first.into(), bit) {
         Side::In
     } else {
         Side::Out

@@ -4,7 +4,7 @@ ghost use Rattle.rules.specs.declared.rule.Rule.{Rule as SomeRule};
 ghost use Rattle.rules.specs.Semantics.{◌∈◌};
 ghost use Rattle.steps.specs.Parts.{SetOf};
 ghost use Rattle.lanes.specs.Blocks.{Has};
-ghost use Rattle.lanes.specs.Claiming.{Gathered, Noted, Added, Among};
+ghost use Rattle.lanes.specs.Claiming.{Gathered, Added, Among};
 
 use crate::block::Block;
 use crate::claimants::Claimants;
@@ -16,8 +16,7 @@ impl Claimants {
     // Who claims the literal of this sign, by rules that are all about its matter.
     pub fn of(rules: &[Rule], sign: Sign, block: &Block) -> Claimants
         requires { (r : SomeRule) → r ∈ rules.now → r.sheet < 32 }
-        ensures gathered { (X : ℕ → Literals) → Has X block.now → Gathered rules.now (length rules.now) X sign result }
-        ensures noted { Noted result }
+        ensures { (X : ℕ → Literals) → Has X block.now → Gathered rules.now (length rules.now) X sign result }
     {
         let mut claimants = Claimants::none();
         for r in rules {
@@ -29,7 +28,8 @@ impl Claimants {
     }
 
     fn none() -> Claimants
-        ensures { (result.sheets ≡ 0) × (result.lanes ≡ replicate 32 0) }
+        ensures sheets { result.sheets ≡ 0 }
+        ensures lanes { result.lanes ≡ replicate 32 0 }
     {
         Claimants {
             sheets: 0,
@@ -49,7 +49,6 @@ impl Claimants {
 
     // The lanes in which a sheet of the set claims it.
     pub fn among(&self, set: u32) -> u64
-        requires { Noted self.now }
         ensures { SetOf result (Among self.now set) }
     {
         any_of(&self.lanes, self.sheets & set)

@@ -5,11 +5,13 @@ ghost use Rattle.lanes.specs.Docketing.{about as rule_about, group, Docketed};
 
 use crate::docket::{Docket, STARTS};
 use rules::rule::{Rule, Sign};
+use rules::sets::has;
 use rules::table::Table;
 
 impl Docket {
     pub fn of(rules: &[Rule]) -> Docket
-        requires { (length rules.now ≤ 256) × (Formed 16 rules.now) }
+        requires few { length rules.now ≤ 256 }
+        requires formed { Formed 16 rules.now }
         ensures { Docketed rules.now 16 result }
     {
         let mut docket = Docket::empty();
@@ -20,7 +22,8 @@ impl Docket {
     }
 
     fn empty() -> Docket
-        ensures { (held result.rules ≡ []) × (result.starts ≡ replicate 17 0) }
+        ensures rules { held result.rules ≡ [] }
+        ensures starts { result.starts ≡ replicate 17 0 }
     {
         let rules = Table::new();
         Docket {
@@ -31,8 +34,11 @@ impl Docket {
 
     // Adds the rules about the matter.
     fn add(&mut self, rules: &[Rule], matter: u8)
-        requires { (matter < 16) × ((length (held self.old.rules) + length (filter (rule_about matter) rules.now) ≤ 256) × (Formed 16 rules.now)) }
-        ensures { (held self.new.rules ≡ held self.old.rules ++ filter (rule_about matter) rules.now) × (self.new.starts ≡ slice_set self.old.starts (matter + 1) (length (held self.new.rules))) }
+        requires matter { matter < 16 }
+        requires room { length (held self.old.rules) + length (filter (rule_about matter) rules.now) ≤ 256 }
+        requires formed { Formed 16 rules.now }
+        ensures rules { held self.new.rules ≡ held self.old.rules ++ filter (rule_about matter) rules.now }
+        ensures starts { self.new.starts ≡ slice_set self.old.starts (matter + 1) (length (held self.new.rules)) }
     {
         gather(&mut self.rules, rules, matter);
         self.starts[matter as usize + 1] = self.rules.len();
@@ -40,7 +46,9 @@ impl Docket {
 
     // The rules about the matter.
     pub fn about(&self, matter: u8) -> &[Rule]
-        requires { (matter < 16) × ((slice_index self.now.starts matter ≤ slice_index self.now.starts (matter + 1)) × (slice_index self.now.starts (matter + 1) ≤ length (held self.now.rules))) }
+        requires matter { matter < 16 }
+        requires rising { slice_index self.now.starts matter ≤ slice_index self.now.starts (matter + 1) }
+        requires inside { slice_index self.now.starts (matter + 1) ≤ length (held self.now.rules) }
         ensures { result.now ≡ group self.now matter }
     {
         let at = matter as usize;
@@ -50,7 +58,8 @@ impl Docket {
 
 // Adds the rules about the matter to the table.
 fn gather(table: &mut Table, rules: &[Rule], matter: u8)
-    requires { (length (held table.old) + length (filter (rule_about matter) rules.now) ≤ 256) × (Formed 16 rules.now) }
+    requires room { length (held table.old) + length (filter (rule_about matter) rules.now) ≤ 256 }
+    requires formed { Formed 16 rules.now }
     ensures { held table.new ≡ held table.old ++ filter (rule_about matter) rules.now }
 {
     for r in rules {
@@ -73,7 +82,7 @@ fn is_tautology(r: Rule) -> bool
     ensures { result ≡ holds (body r) r.sign r.head }
 {
     match r.sign {
-        Sign::Yes => (r.yes >> r.head) % 2 == 1,
-        Sign::No => (r.no >> r.head) % 2 == 1,
+        Sign::Yes => has(r.yes.into(), r.head),
+        Sign::No => has(r.no.into(), r.head),
     }
 }

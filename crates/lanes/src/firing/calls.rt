@@ -1,29 +1,22 @@
-ghost use Rattle.std.specs.Prelude.{◌≡◌, ◌+◌, ◌<◌, slice_set};
+ghost use Rattle.std.specs.Prelude.{◌≡◌, ◌<◌, [], ◌∷◌, ◌++◌};
+ghost use Rattle.arrayvec.specs.ArrayVec.{array_vec_len};
 
-use crate::firing::{Firing, Firings, MOST_FIRINGS};
-
-const NO_FIRING: Firing = Firing {
-    head: 0,
-    needs: 0,
-    lanes: 0,
-};
+use crate::firing::{Firing, Firings};
+use arrayvec::ArrayVec;
 
 impl Firings {
     pub fn none() -> Firings
-        ensures { result.len ≡ 0 }
+        ensures { result.items.items ≡ [] }
     {
-        Firings {
-            items: [NO_FIRING; MOST_FIRINGS],
-            len: 0,
-        }
+        let items = ArrayVec::new();
+        Firings { items }
     }
 
     pub fn push(&mut self, firing: Firing)
-        requires { self.old.len < 272 }
-        ensures { (self.new.items ≡ slice_set self.old.items self.old.len firing) × (self.new.len ≡ self.old.len + 1) }
+        requires room { array_vec_len self.old.items < 272 }
+        requires head { firing.head < 16 }
+        ensures { self.new.items.items ≡ self.old.items.items ++ firing ∷ [] }
     {
-        let at = self.len;
-        self.items[at] = firing;
-        self.len = at + 1;
+        self.items.push(firing);
     }
 }

@@ -1,5 +1,6 @@
-ghost use Rattle.std.specs.Prelude.{◌≡◌, ◌<◌, replicate, Decides};
-ghost use Rattle.lanes.specs.Firing.{Rounded, Reached, Low, Fired};
+ghost use Rattle.std.specs.Prelude.{◌≡◌, ◌<◌, replicate};
+ghost use Rattle.lanes.specs.Firing.{Rounded, Reached, Fired};
+ghost use Rattle.arrayvec.specs.ArrayVec.{array_vec_len};
 
 use crate::firing::{Firing, Firings, Reach};
 use crate::words::all_of;
@@ -8,13 +9,12 @@ use rules::matters::MOST_MATTERS;
 impl Firings {
     // What is reached in the end.
     pub fn reach(&self) -> Reach
-        requires { Low self.now }
-        ensures { Reached self.now result.words }
+        ensures { Reached self.now.items.items result.words }
     {
         let mut reach = Reach::nothing();
         'grow: loop {
             let more = self.round(reach);
-            if more.same(reach) {
+            if more == reach {
                 break 'grow reach;
             }
             reach = more;
@@ -22,12 +22,11 @@ impl Firings {
     }
 
     fn round(&self, reach: Reach) -> Reach
-        requires { Low self.now }
-        ensures { Rounded self.now self.now.len reach.words result.words }
+        ensures { Rounded self.now.items.items (array_vec_len self.now.items) reach.words result.words }
     {
         let mut more = reach;
-        for k in 0..self.len {
-            more = more.with(self.items[k]);
+        for firing in self.items.as_slice() {
+            more = more.with(*firing);
         }
         more
     }
@@ -51,11 +50,5 @@ impl Reach {
         let Reach { mut words } = self;
         words[firing.head as usize] |= firing.lanes & met;
         Reach { words }
-    }
-
-    fn same(self, other: Reach) -> bool
-        ensures { Decides result (self.words ≡ other.words) }
-    {
-        self.words == other.words
     }
 }

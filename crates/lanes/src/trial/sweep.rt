@@ -1,16 +1,15 @@
 ghost use Rattle.std.specs.Prelude.{ℕ, ◌<◌, ◌≤◌, List};
 ghost use Rattle.rules.specs.declared.rule.Rule.{Rule as SomeRule};
 ghost use Rattle.rules.specs.Semantics.{LiteralSet as Literals, Overruling, struck};
-ghost use Rattle.steps.specs.Parts.{SetOf, Tabled};
-ghost use Rattle.lanes.specs.Blocks.{Has};
+ghost use Rattle.steps.specs.Parts.{SetOf};
 ghost use Rattle.lanes.specs.Settling.{Stands};
-ghost use Rattle.lanes.specs.Trying.{Sound, StandFrom};
+ghost use Rattle.lanes.specs.Trying.{Sound, Facing, StandFrom};
 
 use crate::block::Block;
-use crate::contest::Contest;
 use crate::trial::Trial;
 
-// The lanes that are left, and the matter at which the sweep ended.
+// The lanes that are left, and the matter at which the sweep ended. No Option of lanes: a next guess comes with some lanes and
+// with none.
 #[derive(Clone, Copy)]
 pub struct Swept {
     pub lanes: u64,
@@ -20,8 +19,10 @@ pub struct Swept {
 impl Trial {
     // The lanes in which each matter from `from` up to `to` stands. It ends as soon as there is none.
     pub fn sweep(&self, block: &Block, from: u8, to: u8, lanes: u64) -> Swept
-        requires { (((P : List SomeRule) × Sound P self.now)) × ((from ≤ to) × (to ≤ 16)) }
-        ensures { (P : List SomeRule) (over : Overruling) (X : ℕ → Literals) → Sound P self.now → Has X block.now → Tabled over self.now.overrulers → to ≤ self.now.matters → SetOf result.lanes (StandFrom P over self.now.matters X from to lanes) }
+        requires sound { (P : List SomeRule) × Sound P self.now }
+        requires rising { from ≤ to }
+        requires inside { to ≤ 16 }
+        ensures { (P : List SomeRule) (over : Overruling) (X : ℕ → Literals) → Facing P over X self.now block.now → to ≤ self.now.matters → SetOf result.lanes (StandFrom P over self.now.matters X from to lanes) }
     {
         let mut lanes = lanes;
         for matter in from..to {
@@ -38,10 +39,10 @@ impl Trial {
 
     // The lanes in which the matter stands.
     fn standing(&self, block: &Block, matter: u8) -> u64
-        requires { (((P : List SomeRule) × Sound P self.now)) × (matter < 16) }
-        ensures { (P : List SomeRule) (over : Overruling) (X : ℕ → Literals) → Sound P self.now → Has X block.now → Tabled over self.now.overrulers → matter < self.now.matters → SetOf result (λ l. (l < 64) × Stands (struck P) over self.now.matters (X l) matter) }
+        requires sound { (P : List SomeRule) × Sound P self.now }
+        requires matter { matter < 16 }
+        ensures { (P : List SomeRule) (over : Overruling) (X : ℕ → Literals) → Facing P over X self.now block.now → matter < self.now.matters → SetOf result (λ l. (l < 64) × Stands (struck P) over self.now.matters (X l) matter) }
     {
-        let contest = Contest::among(self.docket.about(matter), block);
-        contest.settled(matter, block, &self.overrulers)
+        self.contest(block, matter).settled(matter)
     }
 }

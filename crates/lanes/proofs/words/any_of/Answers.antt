@@ -1,22 +1,14 @@
-use Rattle.std.proofs.Common.{get_or, subst, arith}
-use Rattle.rules.proofs.Bitwise.{not_in_zero}
+use Rattle.std.proofs.Common.{ℕ, get_or, rules, arith}
 use Rattle.rules.specs.Semantics.{Mem}
-use Rattle.lanes.proofs.Lowest.{dropped_less}
-use Rattle.lanes.proofs.LaneSets.{set_own, low_chosen, still_within, any_more}
+use Rattle.lanes.proofs.LaneSets.{set_own}
+use Rattle.lanes.proofs.MemberLists.{SomeOf, some_of_none, some_of_more, some_listed, fold_callable, fold_gives}
 use Rattle.lanes.proofs.words.any_of.Goals as goal
 
-pub bounds-words-rest : goal.bounds-words-rest
-bounds-words-rest c = c.requires _ (low_chosen c.args.chosen c.loop-rest.rest 32 (let l = c.loop-rest.invariant.2 in omega arith) c.loop-rest-test.true c.loop-rest.invariant.0)
-
-pub loop-rest-preserved : goal.loop-rest-preserved
-loop-rest-preserved c = (
-  still_within c.args.chosen c.loop-rest.rest 32 (let l = c.loop-rest.invariant.2 in omega arith) c.loop-rest-test.true c.loop-rest.invariant.0,
-  any_more c.args.chosen c.loop-rest.rest 32 (let l = c.loop-rest.invariant.2 in omega arith) c.loop-rest-test.true c.loop-rest.invariant.0 (λ j l. Mem l (get_or c.args.words.now j 0)) c.loop-rest.lanes _ c.loop-rest.invariant.1 (set_own _),
-  (let d = dropped_less c.loop-rest.rest c.loop-rest-test.true in let l = c.loop-rest.invariant.2 in omega arith),
-)
+pub fold-requires-clause-callable : goal.fold-requires-clause-callable
+fold-requires-clause-callable c = fold_callable _ _ _ _ c.members_of.ensures _ (λ a j b f k. search rules) (λ a j m. let inside = c.requires j m in search rules)
 
 pub returns : goal.returns
-returns c = let s = c.loop-rest.invariant.1 in record {
-  all = λ l w. s.all l (w.0, (w.1, λ h. not_in_zero w.0 (subst (Mem w.0) c.loop-rest-test.false h)), w.2);
-  only = λ l h. let w = s.only l h in (w.0, w.1.0, w.2);
-}
+returns c =
+    let said : ℕ → ℕ → Type 0 = λ j l. Mem l (get_or c.args.words.now j 0) in
+    some_listed said c.args.chosen c.fold.result (omega arith)
+    (fold_gives _ _ _ _ c.members_of.ensures (SomeOf said) _ _ (some_of_none said) (λ ys a j b f i k. let more = some_of_more said ys a j (get_or c.args.words.now j 0) i (set_own _) in search rules) c.fold.ensures.ran)

@@ -1,10 +1,7 @@
-use Rattle.std.proofs.Common.{sym, ◌∙◌, true≢false, arith}
+use Rattle.std.proofs.Common.{arith}
 use Rattle.rules.proofs.Bitwise.{mem_and_left, mem_below}
-use Rattle.lanes.proofs.Bodies.{body_nowhere, body_lanes}
+use Rattle.lanes.proofs.Bodies.{body_lanes}
 use Rattle.lanes.proofs.block.Block.body_true.Goals as goal
-
-pub returns-then-not-body_true : goal.returns-then-not-body_true
-returns-then-not-body_true c = λ X h. body_nowhere X _ c.args.rule h (λ s. true≢false (sym (c.body_true.ensures.1 s) ∙ c.if-not-body_true.true))
 
 pub all_of-yes-requires : goal.all_of-yes-requires
 all_of-yes-requires c = λ j h. let l = mem_below 16 c.args.rule.yes j (omega arith) (mem_and_left j c.args.rule.yes c.args.self.now.varying h) in let e = c.args.self.now.whole in omega arith

@@ -7,6 +7,6 @@ use Rattle.lanes.proofs.contest.Contest.unopposed.Goals as goal
 
 pub returns : goal.returns
 returns c = let e = c.side.ensures in set_same
-    (λ l w. (w.1.0, subst (λ (x : Claimants). Mem l (get_or x.lanes c.args.sheet 0)) e w.0, w.1.1))
-    (λ l w. (subst (λ (x : Claimants). Mem l (get_or x.lanes c.args.sheet 0)) (sym e) w.1, (w.0, w.2)))
+    (λ l w. (w.1.0, record { claims = subst (λ (x : Claimants). Mem l (get_or x.lanes c.args.sheet 0)) e w.0; unopposed = w.1.1 }))
+    (λ l w. (subst (λ (x : Claimants). Mem l (get_or x.lanes c.args.sheet 0)) (sym e) w.1.claims, (w.0, w.1.unopposed)))
     (set_and (set_own _) (set_not (omega arith) c.against.ensures))

@@ -1,5 +1,5 @@
 use Rattle.lanes.specs.Firing.{Rounded}
 use Rattle.lanes.proofs.firing.Firings.round.Given as goal
 
-abbrev pub invariant-loop-k : goal.invariant-loop-k
-invariant-loop-k l = Rounded l.self l.k l.initial.more.words l.more.words
+abbrev pub invariant-loop-firing : goal.invariant-loop-firing
+invariant-loop-firing l = Rounded l.firing-items l.firing-index l.initial.more.words l.more.words

@@ -1,30 +1,23 @@
 use Rattle.std.proofs.Common.{◌≡◌, ℕ, subst, arith}
-use Rattle.lanes.proofs.Founding.{holding_none}
-use Rattle.lanes.proofs.Trying.{group_about, group_low, group_room, most_matters}
+use Rattle.lanes.proofs.Trying.{group_room, most_matters}
 use Rattle.lanes.specs.Founding.{HoldingTo}
 use Rattle.rules.specs.Semantics.{struck}
 use Rattle.lanes.proofs.trial.Trial.firings.Goals as goal
 
-pub loop-matter-init : goal.loop-matter-init
-loop-matter-init c = ((let e = c.none-firings.ensures in omega arith), λ P over X s has t. holding_none (struck P) over _ X c.args.lanes _ c.none-firings.ensures)
-
-pub about-requires : goal.about-requires
-about-requires c = let m = most_matters c.requires.0 c.args.self.now c.requires.1 in let l = c.loop-matter-test.true in ((omega arith), c.requires.1.docketed.rising c.loop-matter.matter (omega arith))
-
-pub enter-requires : goal.enter-requires
-enter-requires c =
+pub enter-requires-clause-room : goal.enter-requires-clause-room
+enter-requires-clause-room c =
     let m = most_matters c.requires.0 c.args.self.now c.requires.1 in let l = c.loop-matter-test.true in
-    let g = group_room c.requires.0 c.args.self.now c.requires.1 c.loop-matter.matter c.about.result.now (omega arith) c.about.ensures in
+    let g = group_room c.requires.0 c.args.self.now c.requires.1 c.loop-matter.matter _ (omega arith) c.contest.ensures.rules in
     let e = g.0 in let r = g.1 in let i = c.loop-matter.invariant.0 in
-    (omega arith, ((omega arith), group_low c.requires.0 c.args.self.now c.requires.1 c.loop-matter.matter _ (omega arith) c.about.ensures))
+    omega arith
 
 pub loop-matter-preserved : goal.loop-matter-preserved
 loop-matter-preserved c =
     let m = most_matters c.requires.0 c.args.self.now c.requires.1 in let l = c.loop-matter-test.true in
-    let g = group_room c.requires.0 c.args.self.now c.requires.1 c.loop-matter.matter c.about.result.now (omega arith) c.about.ensures in
-    let e = g.0 in let i = c.loop-matter.invariant.0 in let f = c.enter.ensures.few in
-    (omega arith, λ P over X s has t. c.enter.ensures.holds (struck P) over _ X has t (group_about P c.args.self.now s c.loop-matter.matter _ (omega arith) c.about.ensures) l (c.loop-matter.invariant.1 P over X s has t))
+    let g = group_room c.requires.0 c.args.self.now c.requires.1 c.loop-matter.matter _ (omega arith) c.contest.ensures.rules in
+    let e = g.0 in let i = c.loop-matter.invariant.0 in let r = c.enter.ensures.few in
+    (omega arith, λ P over X f. c.enter.ensures.holds (struck P) over _ X (c.contest.ensures.hears P over X f) l (c.loop-matter.invariant.1 P over X f))
 
 pub returns : goal.returns
-returns c = λ P over X s has t. let e : c.loop-matter.matter ≡ c.args.self.now.matters = omega arith in
-    subst (λ (a : ℕ). HoldingTo (struck P) over c.args.self.now.matters X c.args.lanes a c.loop-matter.firings) e (c.loop-matter.invariant.1 P over X s has t)
+returns c = λ P over X f. let e : c.loop-matter.matter ≡ c.args.self.now.matters = omega arith in
+    subst (λ (a : ℕ). HoldingTo (struck P) over c.args.self.now.matters X c.args.lanes a c.loop-matter.firings.items.items) e (c.loop-matter.invariant.1 P over X f)

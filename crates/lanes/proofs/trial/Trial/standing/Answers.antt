@@ -1,15 +1,4 @@
-use Rattle.lanes.proofs.Trying.{group_about, group_low}
 use Rattle.lanes.proofs.trial.Trial.standing.Goals as goal
 
-pub about-requires : goal.about-requires
-about-requires c = (c.requires.1, c.requires.0.1.docketed.rising c.args.matter c.requires.1)
-
-pub among-contest-requires : goal.among-contest-requires
-among-contest-requires c = group_low c.requires.0.0 c.args.self.now c.requires.0.1 c.args.matter _ c.requires.1 c.about.ensures
-
 pub returns : goal.returns
-returns c = λ P over X sound has tabled below.
-    c.settled.ensures _ c.about.result.now over _ X has tabled
-    (group_about P c.args.self.now sound c.args.matter _ c.requires.1 c.about.ensures)
-    (group_low P c.args.self.now sound c.args.matter _ c.requires.1 c.about.ensures)
-    (c.among-contest.ensures.contested X has) below
+returns c = λ P over X facing below. c.settled.ensures _ over _ X (c.contest.ensures.hears P over X facing) below

@@ -4,16 +4,16 @@ use Rattle.lanes.proofs.Trying.{sweep_start, sweep_more, sweep_none, sweep_end}
 use Rattle.lanes.proofs.trial.Trial.sweep.Goals as goal
 
 pub loop-matter-init : goal.loop-matter-init
-loop-matter-init c = λ P over X s h t b. sweep_start P over _ X c.args.from c.args.lanes
+loop-matter-init c = λ P over X f b. sweep_start P over _ X c.args.from c.args.lanes
 
 pub loop-matter-preserved : goal.loop-matter-preserved
-loop-matter-preserved c = λ P over X s h t b. sweep_more P over _ X c.args.from c.args.lanes c.loop-matter.matter c.loop-matter.lanes c.standing-lanes.result
-    (c.loop-matter.invariant P over X s h t b) (c.standing-lanes.ensures P over X s h t (let k = c.loop-matter-test.true in omega arith)) (omega arith) (omega arith)
+loop-matter-preserved c = λ P over X f b. sweep_more P over _ X c.args.from c.args.lanes c.loop-matter.matter c.loop-matter.lanes c.standing-lanes.result
+    (c.loop-matter.invariant P over X f b) (c.standing-lanes.ensures P over X f (let k = c.loop-matter-test.true in omega arith)) (omega arith) (omega arith)
 
 pub returns-then-lanes-eq0 : goal.returns-then-lanes-eq0
-returns-then-lanes-eq0 c = λ P over X s h t b. sweep_none P over _ X c.args.from c.args.lanes (c.loop-matter.matter + 1) c.args.to (bit_and c.loop-matter.lanes c.standing-lanes.result) c.if-lanes-eq0.true (let k = c.loop-matter-test.true in omega arith)
+returns-then-lanes-eq0 c = λ P over X f b. sweep_none P over _ X c.args.from c.args.lanes (c.loop-matter.matter + 1) c.args.to (bit_and c.loop-matter.lanes c.standing-lanes.result) c.if-lanes-eq0.true (let k = c.loop-matter-test.true in omega arith)
     (sweep_more P over _ X c.args.from c.args.lanes c.loop-matter.matter c.loop-matter.lanes c.standing-lanes.result
-    (c.loop-matter.invariant P over X s h t b) (c.standing-lanes.ensures P over X s h t (let k = c.loop-matter-test.true in omega arith)) (omega arith) (omega arith))
+    (c.loop-matter.invariant P over X f b) (c.standing-lanes.ensures P over X f (let k = c.loop-matter-test.true in omega arith)) (omega arith) (omega arith))
 
 pub returns : goal.returns
-returns c = λ P over X s h t b. sweep_end P over _ X c.args.from c.args.lanes c.loop-matter.matter c.args.to c.loop-matter.lanes (omega arith) (c.loop-matter.invariant P over X s h t b)
+returns c = λ P over X f b. sweep_end P over _ X c.args.from c.args.lanes c.loop-matter.matter c.args.to c.loop-matter.lanes (omega arith) (c.loop-matter.invariant P over X f b)
