@@ -1,26 +1,23 @@
-ghost use Rattle.std.specs.Prelude.{◌≡◌};
 ghost use Rattle.orders.specs.Faults.{order_number};
 ghost use Rattle.rules.specs.declared.refusal.Layer.TheVariants.{Order as OrderLayer};
 
-use rules::refusal::Layer;
+use rules::refusal::{Layer, Refusal};
 
 #[derive(Clone, Copy, PartialEq, Eq, Debug)]
 pub enum OrderFault {
-    TooManyGrades,
+    TooManyGrades = 15,
 }
 
-impl OrderFault {
-    pub fn number(self) -> u8
-        ensures { result ≡ order_number self }
-    {
-        match self {
-            OrderFault::TooManyGrades => 15,
-        }
+impl Refusal for OrderFault {
+    ghost numbered = { order_number };
+
+    ghost layered = { λ _. OrderLayer };
+
+    fn number(self) -> u8 {
+        self as u8
     }
 
-    pub fn layer(self) -> Layer
-        ensures { result ≡ OrderLayer }
-    {
+    fn layer(self) -> Layer {
         Layer::Order
     }
 }

@@ -14,17 +14,13 @@ pub struct Graded {
 impl Order for Graded {
     const CODE: u8 = 2;
 
-    ghost number = { 2 };
+    ghost CODE = { 2 };
 
     ghost over = { λ x. by_grade (graded x.grades) };
 
     ghost coded = { Prim.search rules };
 
     ghost total = { Prim.search rules };
-
-    fn code_number() -> u8 {
-        Self::CODE
-    }
 
     fn overrules(&self, j: u8, i: u8) -> bool {
         self.grades.of(i) <= self.grades.of(j)

@@ -14,17 +14,13 @@ pub struct GradedPosition {
 impl Order for GradedPosition {
     const CODE: u8 = 3;
 
-    ghost number = { 3 };
+    ghost CODE = { 3 };
 
     ghost over = { λ x. by_grade_then_position (graded x.grades) };
 
     ghost coded = { Prim.search rules };
 
     ghost total = { Prim.search rules };
-
-    fn code_number() -> u8 {
-        Self::CODE
-    }
 
     fn overrules(&self, j: u8, i: u8) -> bool {
         let (low, high) = (self.grades.of(i), self.grades.of(j));

@@ -6,19 +6,15 @@ pub trait Order {
     // The code by which a report names the order, 1 to 255.
     const CODE: u8;
 
-    // The value of `CODE`, for contracts: a clause cannot name the constant of a bound.
-    ghost number: { ℕ };
+    ghost CODE: { ℕ };
 
     ghost over: { Self → ℕ → ℕ → Bool };
-
-    fn code_number() -> u8
-        ensures { result ≡ number };
 
     // Whether sheet `j` overrules sheet `i`.
     fn overrules(&self, j: u8, i: u8) -> bool
         ensures { result ≡ over self.now j i };
 
-    ghost coded: { (0 < number) × (number ≤ 255) };
+    ghost coded: { (0 < CODE) × (CODE ≤ 255) };
 
     // Of any two sheets, one at least overrules the other. Nothing else is asked: overruling need not pass on.
     ghost total: { (x : Self) → Total (over x) };

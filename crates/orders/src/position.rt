@@ -10,17 +10,13 @@ pub struct Position;
 impl Order for Position {
     const CODE: u8 = 1;
 
-    ghost number = { 1 };
+    ghost CODE = { 1 };
 
     ghost over = { λ _. by_position };
 
     ghost coded = { Prim.search rules };
 
     ghost total = { Prim.search rules };
-
-    fn code_number() -> u8 {
-        Self::CODE
-    }
 
     fn overrules(&self, j: u8, i: u8) -> bool {
         i <= j

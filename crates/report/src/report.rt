@@ -14,17 +14,12 @@ pub fn write_report<R: Rack, O: Order>(
     list: &mut [u16],
     out: &mut [u8],
 ) -> Result<usize, EvaluatorFault>
-    ensures { Reported (R.Rack.meaning rack.now).rules (O.Order.over order.now) (R.Rack.meaning rack.now).matters O.Order.number list.old list.new out.old out.new result }
+    ensures { Reported (R.Rack.meaning rack.now).rules (O.Order.over order.now) (R.Rack.meaning rack.now).matters O.Order.CODE list.old list.new out.old out.new result }
 {
     let count = outcomes(rack, order, list)?;
     let model = well_founded(rack, order);
     let matters = rack.shape().matters;
-    write_text(
-        O::code_number(),
-        matters,
-        &list[0..count],
-        model.literals,
-        out,
+    write_text(O::CODE, matters, &list[0..count], model.literals, out).ok_or(
+        EvaluatorFault::TextTooLong,
     )
-    .ok_or(EvaluatorFault::TextTooLong)
 }

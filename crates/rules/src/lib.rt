@@ -7,4 +7,5 @@ pub mod matters;
 pub mod record;
 pub mod refusal;
 pub mod rule;
+pub mod sets;
 pub mod table;

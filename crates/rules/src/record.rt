@@ -17,19 +17,17 @@ impl Record {
     pub fn check(self, matters: u8, sheet: u8) -> Option<Rule>
         ensures { Checks matters sheet self result }
     {
-        let sound = self.head < matters && self.sign <= 1;
-        if sound && names_only(self.yes, matters) && names_only(self.no, matters) {
-            let sign = if self.sign == 1 { Sign::Yes } else { Sign::No };
-            Some(Rule {
-                sheet,
-                head: self.head,
-                sign,
-                yes: self.yes,
-                no: self.no,
-            })
-        } else {
-            None
-        }
+        let sign = Sign::try_from(self.sign).ok()?;
+        let sound = self.head < matters
+            && names_only(self.yes, matters)
+            && names_only(self.no, matters);
+        sound.then_some(Rule {
+            sheet,
+            head: self.head,
+            sign,
+            yes: self.yes,
+            no: self.no,
+        })
     }
 }
 

@@ -1,11 +1,53 @@
-ghost use Rattle.std.specs.Prelude.{Decides};
-ghost use Rattle.rules.specs.Semantics.{body, Clash, ◌⊆◌};
+ghost use Rattle.std.specs.Prelude.{◌≡◌, Decides};
+ghost use Rattle.rules.specs.Semantics.{body, opposite, Clash, ◌⊆◌};
+ghost use Rattle.rules.specs.Signs.{Signs, sign_number};
 
 // The sign of a literal: a matter, which is a propositional atom (`Yes`), or its default negation (`No`).
 #[derive(Clone, Copy, PartialEq, Eq, Debug)]
 pub enum Sign {
     No,
     Yes,
+}
+
+impl Sign {
+    // The sign of the contrary literal.
+    pub fn opposite(self) -> Sign
+        ensures { result ≡ opposite self }
+    {
+        match self {
+            Sign::No => Sign::Yes,
+            Sign::Yes => Sign::No,
+        }
+    }
+}
+
+// A number that is no sign.
+#[derive(Clone, Copy, PartialEq, Eq, Debug)]
+pub struct NoSign(pub u8);
+
+impl TryFrom<u8> for Sign {
+    type Error = NoSign;
+
+    ghost try_from_gives = { Signs };
+
+    fn try_from(number: u8) -> Result<Sign, NoSign> {
+        match number {
+            0 => Ok(Sign::No),
+            1 => Ok(Sign::Yes),
+            _ => Err(NoSign(number)),
+        }
+    }
+}
+
+impl From<Sign> for u8 {
+    ghost from_gives = { λ sign r. r ≡ sign_number sign };
+
+    fn from(sign: Sign) -> u8 {
+        match sign {
+            Sign::No => 0,
+            Sign::Yes => 1,
+        }
+    }
 }
 
 // A set of matters is a number with bit `a` set for matter `a`.

@@ -1,4 +1,5 @@
 ghost use Rattle.std.specs.Prelude.{◌≡◌, [], ◌∷◌, ◌++◌, length, if◌then◌else◌, nat_lt};
+ghost use Rattle.std.specs.List.{slice_get};
 ghost use Rattle.rules.specs.Held.{held};
 
 use crate::rule::{Rule, Sign};
@@ -32,6 +33,13 @@ impl Table {
         ensures { result ≡ length (held self.now) }
     {
         self.as_slice().len()
+    }
+
+    // The rule at a place, or none past the end.
+    pub fn rule(&self, place: u16) -> Option<Rule>
+        ensures { result ≡ slice_get (held self.now) place }
+    {
+        self.as_slice().get(usize::from(place)).copied()
     }
 
     // Adds the rule at the end and answers true; a full table stays as it is.

@@ -20,12 +20,12 @@ returns g c =
     let m = g.R.Rack.meaning c.args.rack.now in
     let e : c.shape-matters.result.matters ≡ m.matters = ap (λ (s : Shape). s.matters) c.shape-matters.ensures in
     let f : take (c.in_ok-count.count - 0) c.outcomes.new.list ≡ take c.in_ok-count.count c.outcomes.new.list = ap (λ (i : ℕ). take i c.outcomes.new.list) (sub-zero c.in_ok-count.count) in
-    subst (Reported m.rules (g.O.Order.over c.args.order.now) m.matters g.O.Order.number c.args.list.now c.outcomes.new.list c.args.out.now c.write_text.new.out)
+    subst (Reported m.rules (g.O.Order.over c.args.order.now) m.matters g.O.Order.CODE c.args.list.now c.outcomes.new.list c.args.out.now c.write_text.new.out)
     (sym c.ok_or.ensures.value)
     (reported c.args.out.now c.write_text.new.out (record {
       count = c.in_ok-count.count;
       model = c.well_founded-model.result.literals;
       filled = c.in_ok-count.ensures;
       well_founded = c.well_founded-model.ensures.well_founded;
-      text_is = λ i. text (c.code_number.ensures i) (e i) (f i) c.well_founded-model.result.literals;
+      text_is = λ i. text (c.CODE.ensures i) (e i) (f i) c.well_founded-model.result.literals;
     }) c.write_text.result c.write_text.ensures)

@@ -1,0 +1,10 @@
+ghost use Rattle.std.specs.Prelude.{Decides};
+ghost use Rattle.rules.specs.Semantics.{Mem};
+
+// Whether a set of matters, sheets or lanes has a member: bit `i` of the set is set for the member `i`.
+// A number past the last bit is in no set.
+pub fn has(set: u64, member: u8) -> bool
+    ensures { Decides result (Mem member set) }
+{
+    member < 64 && (set >> member) % 2 == 1
+}
