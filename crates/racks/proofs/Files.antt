@@ -7,7 +7,7 @@ use Rattle.rules.specs.declared.record.Record.{Record}
 use Rattle.rules.specs.Records.{good, ruled}
 use Rattle.rules.specs.Refusals.{first_met}
 use Rattle.racks.specs.Meaning.{Meaning}
-use Rattle.racks.specs.Changing.{bare, begun, MakesBare}
+use Rattle.racks.specs.Changing.{begun, MakesBare}
 use Rattle.racks.specs.declared.sheets.Sheets.{Sheets}
 use Rattle.racks.specs.Packing.{packed_sheet, packed_sheets, count, numbered, Holdable, File, rack_of, sheet_table, Reaches, Refused, in_sheet, at_end}
 use Rattle.racks.specs.Reading.{SheetRead, all_laid}
@@ -19,9 +19,6 @@ pub record Done (n s : ℕ) (bytes rest : List ℕ) (m : Meaning) : Type 0 where
   pub bytes_are : bytes ≡ packed_sheets sheets ++ rest
   pub holdable : Holdable n sheets
   pub rack_is : m ≡ rack_of n sheets
-
-pub done_none : (n : ℕ) (bytes : List ℕ) (m : Meaning) → m ≡ bare n → Done n 0 bytes bytes m
-done_none n bytes m e = record { sheets = []; so_many = refl; bytes_are = refl; holdable = record { all_good = tt; few_rules = omega arith }; rack_is = e }
 
 count_push : (sheets : List (List Record)) (xs : List Record) → count (sheets ++ (xs ∷ [])) ≡ count sheets + length xs
 count_push [] xs = omega arith

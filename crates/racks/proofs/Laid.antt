@@ -1,5 +1,5 @@
 -- A rule more on the top sheet, or the top sheet less: what every rack keeps to still holds.
-use Rattle.std.proofs.Common.{◌≡◌, ℕ, ◌-◌, ◌<◌, ◌≤◌, Bool, true, false, List, [], ◌∷◌, length, filter, Some, None, Err, Option, Result, ap, ◌∙◌, ⊎_elim, arith}
+use Rattle.std.proofs.Common.{◌≡◌, ℕ, ◌-◌, ◌<◌, ◌≤◌, Bool, true, false, List, [], ◌∷◌, ◌++◌, length, filter, Some, None, Err, Option, Result, cond, nat_lt, sym, subst, ap, ◌∙◌, ⊎_elim, arith}
 use Rattle.std.specs.List.{AllByRecursion}
 use Rattle.std.proofs.ByRecursion.{All-get_or, All-from_get_or, All-push, All-weaker}
 use Rattle.std.proofs.lemmas.Bool.{cases_Bool, ltb-true}
@@ -87,3 +87,9 @@ module _ {U : Type 0} (test : Meaning → Bool) (change : Meaning → Meaning) (
 pub fault_is : {A E : Type 0} {x e : E} (r : Option A) → r ≡ None → ◌≡◌ {A = Result A E} (Err x) (ok_or r e) → x ≡ e
 fault_is (Some v) n h = cc
 fault_is None n h = cc
+
+-- what a push leaves, whether or not there was room
+pub pushed_kept : (m : Meaning) (x : Record) (y : Rule) (b : Bool) (Q : List Rule) → 0 < m.sheets → good m.matters x ≡ true → y ≡ ruled (m.sheets - 1) x → b ≡ nat_lt (length m.rules) 256 → Q ≡ cond b (m.rules ++ (y ∷ [])) m.rules → Kept m → Kept (record { matters = m.matters; sheets = m.sheets; rules = Q })
+pushed_kept m x y true Q on g e room q k =
+    subst (λ (R : List Rule). Kept (record { matters = m.matters; sheets = m.sheets; rules = R })) (sym (q ∙ ap (λ (r : Rule). m.rules ++ (r ∷ [])) e)) (laid_kept m x on g (ltb-true _ _ (sym room)) k)
+pushed_kept m x y false Q on g e room q k = subst (λ (R : List Rule). Kept (record { matters = m.matters; sheets = m.sheets; rules = R })) (sym q) k

@@ -2,7 +2,7 @@
 use Rattle.std.proofs.Common.{◌≡◌, ℕ, ◌+◌, ◌-◌, ◌*◌, ◌/◌, ◌%◌, ◌<◌, ◌≤◌, true, false, true≢false, nat_lt, cond, List, [], ◌∷◌, ◌++◌, map, length, get_or, take, drop, Some, None, sym, ap, ◌∙◌, subst, ⊎_elim, arith, length-drop}
 use Rattle.std.specs.List.{IsSplitAt}
 use Rattle.std.specs.Simd.{first_chunks}
-use Rattle.std.proofs.lemmas.List.{append-nil, append_assoc, map_push, map_more, get_or-map, length-map, length-append, length-take-le, take-append-drop}
+use Rattle.std.proofs.lemmas.List.{append_assoc, map_push, map_more, get_or-map, length-map, length-append, length-take-le, take-append-drop}
 use Rattle.std.proofs.ByRecursion.{All-push}
 use Rattle.std.proofs.lemmas.Bool.{and_from, and_parts, cases_Bool, lt-ltb, le-ltb, eq-eqb, cond-true}
 use Rattle.rules.specs.declared.record.Record.{Record}
@@ -14,9 +14,6 @@ use Rattle.racks.specs.Changing.{laid, layable}
 use Rattle.racks.specs.Packing.{packed_sheet, stated, record_at, records, some_bad, sheet_table}
 use Rattle.racks.specs.Reading.{Adds, SheetRead, unpacked}
 use Rattle.racks.proofs.Packings.{AllBytes, two_bytes_of, bytes_drop, length_records, packed_records, unpacked_records, bad_at}
-
-pub adds_none : (m : Meaning) → Adds [] m m
-adds_none m = record { all_good = tt; added = ap (λ (P : List Rule). record { matters = m.matters; sheets = m.sheets; rules = P }) (sym (append-nil m.rules)) }
 
 pub adds_more : (xs : List Record) (x : Record) (m o new : Meaning) → Adds xs m o → good m.matters x ≡ true → new ≡ laid o x → Adds (xs ++ (x ∷ [])) m new
 adds_more xs x m o new a g e = record {
