@@ -1,5 +1,5 @@
 -- Which answer a lay on an open rack gives.
-use Rattle.std.proofs.Common.{◌≡◌, ℕ, ◌-◌, ◌<◌, ◌≤◌, Bool, true, true≢false, length, Option, Some, None, nat_le, nat_lt, sym, ap, ◌∙◌, refl, arith}
+use Rattle.std.proofs.Common.{◌≡◌, ℕ, ◌-◌, ◌<◌, ◌≤◌, true, true≢false, length, Option, Some, None, nat_le, nat_lt, sym, ap, ◌∙◌, refl, arith}
 use Rattle.std.proofs.lemmas.Bool.{and_from, leb-false, lt-leb, lt-ltb, not_from_true, not-false}
 use Rattle.std.specs.Option.{ok_or}
 use Rattle.rules.specs.declared.record.Record.{Record}
