@@ -1,4 +1,5 @@
 pub mod Splices
+pub mod Pages
 pub mod Lengths
 pub mod Reporting
 pub mod Answering

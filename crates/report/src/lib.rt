@@ -3,4 +3,5 @@
 
 pub mod listing;
 pub mod report;
+mod page;
 mod text;
