@@ -1,5 +1,5 @@
 -- From a filled rack and a report on it to what kiosk-list says.
-use Rattle.std.proofs.Common.{◌≡◌, ℕ, ◌+◌, ◌*◌, ◌≤◌, List, ◌++◌, length, take, drop, Some, Err, ap, sym, ◌∙◌, subst, ⊎_elim, mul-le-mul, arith}
+use Rattle.std.proofs.Common.{◌≡◌, ℕ, ◌+◌, ◌*◌, ◌≤◌, List, ◌++◌, length, take, drop, Some, Err, ap, ◌∙◌, subst, ⊎_elim, mul-le-mul, arith}
 use Rattle.std.proofs.lemmas.List.{length-take-le}
 use Rattle.racks.specs.declared.file.FileRack.{FileRack}
 use Rattle.racks.specs.Filing.{file_meaning, Filled}

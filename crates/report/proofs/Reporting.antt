@@ -1,5 +1,5 @@
 -- From a written text to a report.
-use Rattle.std.proofs.Common.{◌≡◌, ℕ, ◌^◌, ◌≤◌, List, length, take, Some, None, Option, refl, inr, arith, pow_mono}
+use Rattle.std.proofs.Common.{ℕ, ◌^◌, ◌≤◌, List, length, take, Some, None, Option, refl, inr, arith, pow_mono}
 use Rattle.std.specs.Option.{ok_or}
 use Rattle.rules.specs.declared.rule.Rule.{Rule}
 use Rattle.rules.specs.Semantics.{Overruling}

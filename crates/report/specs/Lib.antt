@@ -1,5 +1,4 @@
 pub mod Text
-pub mod Rows
 pub mod Writing
 pub mod Pages
 pub mod Reports

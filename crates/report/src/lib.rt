@@ -2,6 +2,6 @@
 #![tactic(auto)]
 
 pub mod listing;
-pub mod report;
 mod page;
+pub mod report;
 mod text;

@@ -1,4 +1,4 @@
-ghost use Rattle.std.specs.Prelude.{◌≡◌, ◌≤◌, Some, length, take};
+ghost use Rattle.std.specs.Prelude.{◌≡◌, Some, take};
 ghost use Rattle.evaluator.specs.Faults.{fault_number};
 ghost use Rattle.racks.specs.Faults.{file_number};
 ghost use Rattle.report.specs.Listings.{Answers, Listed, refusal};
@@ -60,8 +60,7 @@ fn list(file: &[u8], out: &mut [u8; OUTPUT]) -> Result<usize, RefusalNumber>
 }
 
 // "refused", a space, the number and the end of the line.
-fn put_refusal(out: &mut [u8], number: u8) -> usize
-    requires { 32 ≤ length out.old }
+fn put_refusal(out: &mut [u8; OUTPUT], number: u8) -> usize
     ensures { Writes (refusal number) out.old out.new (Some result) }
 {
     let mut page = Page::new(out);

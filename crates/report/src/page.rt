@@ -35,6 +35,14 @@ impl<'a> Page<'a> {
         self.at = end;
     }
 
+    pub(crate) fn put_line(&mut self, characters: &[u8])
+        requires { Fits self.old (line characters.now) }
+        ensures { Adds self.old (line characters.now) self.new }
+    {
+        self.put(characters);
+        self.put(b"\n");
+    }
+
     pub(crate) fn put_number<I: Integer>(&mut self, number: I)
         requires { Fits self.old (I.text number) }
         ensures { Adds self.old (I.text number) self.new }

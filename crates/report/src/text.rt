@@ -1,13 +1,14 @@
-ghost use Rattle.std.specs.Prelude.{◌≡◌, ◌≤◌, length};
+ghost use Rattle.std.specs.Prelude.{◌≡◌, ◌≤◌, cond, length};
 ghost use Rattle.report.specs.Pages.{Adds, Fits};
-ghost use Rattle.report.specs.Rows.{character};
-ghost use Rattle.report.specs.Text.{cells, heading, line, listing, reading, text};
+ghost use Rattle.report.specs.Text.{cells, digit, heading, letter, listing, reading, text};
 ghost use Rattle.report.specs.Writing.{Writes};
 
 use crate::page::Page;
 use itoa::Buffer;
+use rules::matters::MOST_MATTERS;
 use rules::rule::LiteralSet;
 use rules::sets::has;
+use std::array;
 
 // What a report says: under the order of this code there are these outcomes and this model, on so many matters.
 #[derive(Drop)]
@@ -31,7 +32,7 @@ impl Text<'_> {
         let mut page = Page::new(out);
         self.put_heading(&mut page);
         self.put_outcomes(&mut page);
-        put_row(&mut page, Row::Model(self.model), self.matters);
+        page.put_line(&letters(self.model)[..usize::from(self.matters)]);
         Some(page.len())
     }
 
@@ -59,39 +60,30 @@ impl Text<'_> {
         ensures { Adds page.old (listing self.now.matters self.now.outcomes.now) page.new }
     {
         for outcome in self.outcomes {
-            put_row(page, Row::Outcome(*outcome), self.matters);
+            page.put_line(&digits(*outcome)[..usize::from(self.matters)]);
         }
     }
 }
 
-fn put_row(page: &mut Page<'_>, row: Row, matters: u8)
-    requires { Fits page.old (line (cells (character row) matters)) }
-    ensures { Adds page.old (line (cells (character row) matters)) page.new }
+// The digit of each matter: whether it is in the outcome.
+fn digits(outcome: u16) -> [u8; MOST_MATTERS]
+    ensures { result ≡ cells (digit outcome) 16 }
 {
-    for matter in 0..matters {
-        page.put(&[row.mark(matter)]);
-    }
-    page.put(b"\n");
+    array::from_fn(|matter| digit(has(outcome.into(), matter as u8)))
 }
 
-// What a line shows of the matters.
-#[derive(Clone, Copy)]
-enum Row {
-    // Which matters are in the outcome.
-    Outcome(u16),
-    // Which signs of each matter are in the model.
-    Model(LiteralSet),
+// The letter of each matter: which of its signs are in the model.
+fn letters(model: LiteralSet) -> [u8; MOST_MATTERS]
+    ensures { result ≡ cells (letter model) 16 }
+{
+    let (yes, no) = model;
+    array::from_fn(|matter| letter(has(yes.into(), matter as u8), has(no.into(), matter as u8)))
 }
 
-impl Row {
-    fn mark(self, matter: u8) -> u8
-        ensures { result ≡ character self matter }
-    {
-        match self {
-            Row::Outcome(set) => if has(set.into(), matter) { b'1' } else { b'0' },
-            Row::Model((yes, no)) => letter(has(yes.into(), matter), has(no.into(), matter)),
-        }
-    }
+fn digit(held: bool) -> u8
+    ensures { result ≡ cond held 49 48 }
+{
+    if held { b'1' } else { b'0' }
 }
 
 fn letter(yes: bool, no: bool) -> u8

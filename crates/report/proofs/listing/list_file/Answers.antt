@@ -1,7 +1,5 @@
-use Rattle.std.proofs.Common.{◌≡◌, ℕ, List, length, min, take, subst}
+use Rattle.std.proofs.Common.{◌≡◌, ℕ, List, length, min, take}
 use Rattle.std.proofs.lemmas.List.{take_min}
-use Rattle.report.specs.Listings.{Answers}
-use Rattle.report.specs.Writing.{Writes}
 use Rattle.report.proofs.Answering.{said_refusal}
 use Rattle.report.proofs.listing.list_file.Goals as goal
 

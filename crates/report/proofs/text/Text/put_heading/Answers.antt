@@ -1,4 +1,4 @@
-use Rattle.std.proofs.Common.{◌≡◌, ℕ, ◌∷◌, [], ◌++◌, length, decimal, append_assoc}
+use Rattle.std.proofs.Common.{◌≡◌, ℕ, ◌∷◌, [], ◌++◌, decimal, append_assoc}
 use Rattle.report.specs.Text.{heading}
 use Rattle.report.proofs.Pages.{adds_then, fits_first, fits_next}
 use Rattle.report.proofs.text.Text.put_heading.Goals as goal
