@@ -10,6 +10,7 @@ use evaluator::answer::EvaluatorFault;
 use orders::position::Position;
 use racks::file::FileRack;
 use racks::file::fault::FileFault;
+use rules::refusal::Refusal;
 
 // How much of its input kiosk-list looks at, how many outcomes it can list, and how much it can print: the buffers are fixed, so that
 // no call can fail for want of memory.
