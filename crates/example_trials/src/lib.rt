@@ -6,6 +6,7 @@
 mod tests {
     use report::listing::{OUTPUT, list_file};
 
+    // Also in `list_trials`: a crate of its own for three lines would be no plainer.
     fn says(bytes: &[u8], text: &[u8]) -> bool {
         let mut out = [0; OUTPUT];
         let len = list_file(bytes, &mut out);

@@ -4,14 +4,14 @@ ghost use Rattle.report.specs.Text.{line};
 
 use itoa::{Buffer, Integer};
 
-// A buffer that is written from the front on.
+// A buffer that is written from the front on. Not a `fmt::Write`: `write!` does not promise to succeed where there is room.
 #[derive(Drop)]
 pub(crate) struct Page<'a> {
     out: &'a mut [u8],
     at: usize,
 }
 
-// Each `put` writes a piece behind what is written.
+// Each `put` writes a piece behind what is written already.
 impl<'a> Page<'a> {
     pub(crate) fn new(out: &'a mut [u8]) -> Page<'a>
         ensures { Opens out.entry result }

@@ -1,5 +1,5 @@
 use Rattle.std.proofs.Common.{[], get_or, take, arith}
-use Rattle.std.proofs.lemmas.List.{flat_map_more, take_all, take_more}
+use Rattle.std.proofs.lemmas.List.{flat_map_more, take_more}
 use Rattle.std.proofs.lemmas.List.Folds.{length-flat_map-take}
 use Rattle.report.specs.Text.{cells, digit, line}
 use Rattle.report.proofs.Lengths.{take_cells}
@@ -23,6 +23,3 @@ loop-outcome-preserved c =
     let i = c.loop-outcome.outcome-index in
     rw (take_more text.outcomes.now i 0 c.loop-outcome-test.true, ← flat_map_more (λ M. line (cells (digit M) text.matters)) [] (take i text.outcomes.now) (get_or text.outcomes.now i 0))
     (adds_then c.loop-outcome.invariant (rw (take_cells (digit (get_or text.outcomes.now i 0)) c.from.result text.matters c.digits.result c.from.ensures c.digits.ensures text.few) at c.put_line.ensures))
-
-pub returns : goal.returns
-returns c = rw (take_all c.loop-outcome.outcome-index c.args.self.now.outcomes.now c.loop-outcome-test.false) at c.loop-outcome.invariant
