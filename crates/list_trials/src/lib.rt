@@ -10,10 +10,11 @@ mod tests {
     // Two matters; one sheet: "0 if no 1" and "1 if no 0".
     const EITHER: [u8; 17] = [1, 2, 1, 0, 12, 0, 1, 0, 0, 0, 2, 1, 1, 0, 0, 0, 1];
 
+    // Also in `example_trials`: a crate of its own for three lines would be no plainer.
     fn says(bytes: &[u8], text: &[u8]) -> bool {
         let mut out = [0; OUTPUT];
         let len = list_file(bytes, &mut out);
-        &out[0..len] == text
+        &out[..len] == text
     }
 
     // The file `EITHER` with another byte at a place.

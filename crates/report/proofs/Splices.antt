@@ -1,6 +1,6 @@
 -- Pieces of text that are written one after another.
-use Rattle.std.proofs.Common.{◌≡◌, ℕ, ◌+◌, ◌<◌, ◌≤◌, List, [], ◌∷◌, ◌++◌, length, take, drop, set, Some, sym, refl, ap, ◌∙◌, append_assoc, add-zero, add-one, arith}
-use Rattle.std.proofs.lemmas.List.{length-append, length-take-le, length-drop, take-append-drop, take_at, drop_at, drop-drop, set_split}
+use Rattle.std.proofs.Common.{◌≡◌, ℕ, ◌+◌, ◌≤◌, List, [], ◌++◌, length, take, drop, Some, sym, ap, ◌∙◌, append_assoc, add-zero, arith}
+use Rattle.std.proofs.lemmas.List.{length-append, length-take-le, length-drop, take-append-drop, take_at, drop_at, drop-drop}
 use Rattle.report.specs.Writing.{spliced, Puts, Writes}
 
 length_front : (xs p : List ℕ) (at : ℕ) → at + length p ≤ length xs → length (take at xs ++ p) ≡ at + length p
@@ -43,10 +43,6 @@ puts_then {xs} {ys} {zs} {p} {q} {at} {mid} {end} a b =
     let sum = length-append p q in
     let same = puts_long a in
     record { room = omega arith; leaves = cc (splice_behind xs p q at a.room); ends = omega arith }
-
-pub puts_byte : (xs : List ℕ) (at b : ℕ) → at < length xs → Puts xs at (b ∷ []) (set xs at b) (at + 1)
-unfolding spliced
-puts_byte xs at b h = record { room = omega arith; leaves = rw add-one (set_split xs at b h); ends = refl }
 
 -- a piece at the front is a whole text
 pub puts_front : {xs ys p : List ℕ} {end : ℕ} → Puts xs 0 p ys end → Writes p xs ys (Some end)
