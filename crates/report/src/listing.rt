@@ -1,15 +1,11 @@
 ghost use Rattle.std.specs.Prelude.{◌≡◌, Some, take};
-ghost use Rattle.evaluator.specs.Faults.{fault_number};
-ghost use Rattle.racks.specs.Faults.{file_number};
 ghost use Rattle.report.specs.Listings.{Answers, Listed, refusal};
 ghost use Rattle.report.specs.Writing.{Writes};
 
 use crate::page::Page;
 use crate::report::write_report;
-use evaluator::answer::EvaluatorFault;
 use orders::position::Position;
 use racks::file::FileRack;
-use racks::file::fault::FileFault;
 use rules::refusal::Refusal;
 
 // How much of its input kiosk-list looks at, how many outcomes it can list, and how much it can print: the buffers are fixed, so that
@@ -34,18 +30,10 @@ pub fn list_file(input: &[u8], out: &mut [u8; OUTPUT]) -> usize
 #[derive(Clone, Copy)]
 struct RefusalNumber(u8);
 
-impl From<FileFault> for RefusalNumber {
-    ghost from_gives = { λ fault refused. refused.0 ≡ file_number fault };
+impl<F: Refusal> From<F> for RefusalNumber {
+    ghost from_gives = { λ fault refused. refused.0 ≡ F.numbered fault };
 
-    fn from(fault: FileFault) -> RefusalNumber {
-        RefusalNumber(fault.number())
-    }
-}
-
-impl From<EvaluatorFault> for RefusalNumber {
-    ghost from_gives = { λ fault refused. refused.0 ≡ fault_number fault };
-
-    fn from(fault: EvaluatorFault) -> RefusalNumber {
+    fn from(fault: F) -> RefusalNumber {
         RefusalNumber(fault.number())
     }
 }
