@@ -1,17 +1,17 @@
 -- A kiosk shows what its book shows.
-use Rattle.std.specs.Prelude.{◌≡◌, ℕ, zero, suc, ◌+◌, ◌<◌, Bool, true, false, List, [], ◌∷◌, ◌++◌, map, length, vec_items, filter, ◌==◌, nat_eq, nat_lt, slice_index_or, refl}
+use Rattle.std.specs.Prelude.{◌≡◌, ℕ, zero, suc, ◌+◌, ◌<◌, Bool, true, false, List, [], ◌∷◌, ◌++◌, map, length, filter, ◌==◌, nat_eq, nat_lt, slice_index_or, refl}
 use Rattle.std.proofs.Common.{sym, ap, subst, ◌∙◌, ⊎_elim, append_assoc, arith, add-one}
 use Rattle.std.proofs.lemmas.List.{append-nil, length-append}
 use Rattle.std.proofs.lemmas.Bool.{lt-ltb, le-ltb, ne_eqb, eq-eqb, cases_Bool, cases_order, eqb-true}
 use Rattle.rules.specs.declared.rule.Rule.{Rule}
-use Rattle.racks.specs.Meaning.{Meaning, Kept, Throughout, Rising}
+use Rattle.racks.specs.Meaning.{Meaning, Kept, Throughout, Rising, shaped}
 use Rattle.rules.specs.Parts.{no_rule}
-use Rattle.laying.specs.Laying.{Ground, ground, under}
+use Rattle.laying.specs.Laying.{Ground, under}
 use Rattle.kiosk.specs.declared.kiosk.Kiosk.{Kiosk}
 use Rattle.kiosk.specs.declared.slip.Fact.{Fact}
 use Rattle.kiosk.specs.Book.{Sheet}
-use Rattle.kiosk.specs.Slip.{fact_rule}
-use Rattle.kiosk.specs.Standing.{plain, on, on_sheet, sheet_of, sheets_of, numbered, fact_clause, slip_of, booked, book_of, kiosk_seated, kiosk_meaning, shown, topped}
+use Rattle.kiosk.specs.Slip.{fact_rule, matters_in}
+use Rattle.kiosk.specs.Standing.{plain, on, on_sheet, sheet_of, sheets_of, numbered, fact_clause, slip_of, booked, book_of, kiosk_seated, kiosk_meaning, shown, topped, seated}
 use Rattle.kiosk.specs.Kept.{kept_nothing}
 use Rattle.kiosk.specs.Steps.{seated_parts}
 use Rattle.kiosk.specs.Topped.{topped_kept}
@@ -113,9 +113,12 @@ shown_booked g true fs f =
 
 pub kiosk_kept : {R : Type 0} (m : R → Meaning) (k : Kiosk R) → Kept (m k.rack) → Kept (kiosk_meaning m k)
 kiosk_kept m k kept =
-    let fs = vec_items k.slip.facts in
-    topped_kept (kiosk_seated m k) (m k.rack) k.matters fs kept
-    (λ e. let p = seated_parts (m k.rack) k.matters k.session fs e in (p.1, p.2, p.3)) k.known
+    let fs = k.slip.facts.items in
+    topped_kept (kiosk_seated m k) (m k.rack) (matters_in k.session) fs kept
+    (λ e. let p = seated_parts (m k.rack) k.session fs e in (sym (ap matters_in p.0), p.1, p.2)) k.known
 
-pub kiosk_shown : {R : Type 0} (m : R → Meaning) (f p : R → ℕ) (k : Kiosk R) → Kept (m k.rack) → kiosk_meaning m k ≡ shown (book_of m f p k)
-kiosk_shown m f p k kept = shown_booked (ground (m k.rack) (f k.rack) (p k.rack)) (kiosk_seated m k) (vec_items k.slip.facts) kept
+pub kiosk_shown : {R : Type 0} (m : R → Meaning) (g : R → Ground) (k : Kiosk R) → (g k.rack).meaning ≡ m k.rack → Kept (m k.rack) → kiosk_meaning m k ≡ shown (book_of g k)
+kiosk_shown m g k e kept =
+    let fs = k.slip.facts.items in
+    ap (λ (x : Meaning). topped (seated (shaped x) k.session fs) x fs) (sym e)
+    ∙ shown_booked (g k.rack) (seated (shaped (g k.rack).meaning) k.session fs) fs (subst Kept (sym e) kept)

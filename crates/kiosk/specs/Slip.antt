@@ -28,3 +28,8 @@ Known n fs = (k : ℕ) → k < length fs → (slice_index_or fs k no_fact).matte
 
 abbrev pub Apart : List Fact → Type 0
 Apart fs = (i j : ℕ) → i < j → j < length fs → (slice_index_or fs i no_fact).matter ≢ (slice_index_or fs j no_fact).matter
+
+-- the matters that a fact may be on: those of the open session, and none without one
+abbrev pub matters_in : Option ℕ → ℕ
+matters_in (Some n) = n
+matters_in None = 0

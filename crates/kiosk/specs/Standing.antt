@@ -1,10 +1,10 @@
 -- The book that a kiosk stands for, and what a book shows.
-use Rattle.std.specs.Prelude.{ℕ, ◌+◌, Bool, true, false, cond, ◌&&◌, List, [], ◌∷◌, ◌++◌, map, length, Some, None, vec_items, filter, Option, ◌==◌, nat_le, nat_lt}
+use Rattle.std.specs.Prelude.{ℕ, ◌+◌, Bool, true, false, cond, ◌&&◌, List, [], ◌∷◌, ◌++◌, map, length, Some, None, filter, Option, ◌==◌, nat_le, nat_lt}
 use Rattle.std.specs.List.{range_with_len}
 use Rattle.rules.specs.declared.rule.Rule.{Rule}
 use Rattle.rules.specs.declared.rule.Shape.{Shape}
 use Rattle.racks.specs.Meaning.{Meaning, shaped}
-use Rattle.laying.specs.Laying.{Ground, ground}
+use Rattle.laying.specs.Laying.{Ground}
 use Rattle.kiosk.specs.declared.slip.Fact.{Fact}
 use Rattle.kiosk.specs.declared.kiosk.Kiosk.{Kiosk}
 use Rattle.kiosk.specs.Slip.{fact_rule}
@@ -34,17 +34,18 @@ start g = booked g None
 -- The book of a kiosk
 
 -- a session is open, and its slip fits the rack below; one that does not counts as none
-abbrev pub seated : Shape → ℕ → Bool → List Fact → Bool
-seated below n session fs = session && (below.matters == n && (nat_lt below.sheets 32 && nat_le (below.rules + length fs) 256))
+abbrev pub seated : Shape → Option ℕ → List Fact → Bool
+seated below (Some n) fs = below.matters == n && (nat_lt below.sheets 32 && nat_le (below.rules + length fs) 256)
+seated below None fs = false
 
 abbrev pub kiosk_seated : {R : Type 0} → (R → Meaning) → Kiosk R → Bool
-kiosk_seated m k = seated (shaped (m k.rack)) k.matters k.session (vec_items k.slip.facts)
+kiosk_seated m k = seated (shaped (m k.rack)) k.session k.slip.facts.items
 
 abbrev pub slip_of : Bool → List Fact → Option (List Fact)
 slip_of b fs = cond b (Some fs) None
 
-abbrev pub book_of : {R : Type 0} → (R → Meaning) → (R → ℕ) → (R → ℕ) → Kiosk R → Book
-book_of m f p k = booked (ground (m k.rack) (f k.rack) (p k.rack)) (slip_of (kiosk_seated m k) (vec_items k.slip.facts))
+abbrev pub book_of : {R : Type 0} → (R → Ground) → Kiosk R → Book
+book_of g k = booked (g k.rack) (slip_of (seated (shaped (g k.rack).meaning) k.session k.slip.facts.items) k.slip.facts.items)
 
 -- What a kiosk shows: the rack below, and in a session the slip as one more sheet on top
 
@@ -57,7 +58,7 @@ topped_shape true below k = record { matters = below.matters; sheets = below.she
 topped_shape false below k = below
 
 abbrev pub kiosk_meaning : {R : Type 0} → (R → Meaning) → Kiosk R → Meaning
-kiosk_meaning m k = topped (kiosk_seated m k) (m k.rack) (vec_items k.slip.facts)
+kiosk_meaning m k = topped (kiosk_seated m k) (m k.rack) k.slip.facts.items
 
 -- What a book shows: its sheets, numbered from the lowest, with the slip as the top sheet
 

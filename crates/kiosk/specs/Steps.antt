@@ -1,10 +1,12 @@
 -- From what a rack's call says to the book's step.
-use Rattle.std.specs.Prelude.{◌≡◌, ℕ, ◌+◌, ◌-◌, ◌^◌, ◌<◌, ◌≤◌, Bool, true, false, cond, not, ◌&&◌, leb, List, [], ◌∷◌, ◌++◌, length, drop, Some, None, Ok, Err, Result, ◌==◌, nat_le, nat_lt, refl}
-use Rattle.std.proofs.Common.{sym, ap, ◌∙◌, ⊎_elim, arith, pow_pos}
+use Rattle.std.specs.Prelude.{◌≡◌, ℕ, ◌+◌, ◌-◌, ◌^◌, ◌<◌, ◌≤◌, Bool, true, false, cond, not, ◌&&◌, leb, List, [], ◌∷◌, ◌++◌, length, drop, Some, None, Ok, Err, Option, Result, ◌==◌, nat_le, nat_lt, refl}
+use Rattle.std.proofs.Common.{sym, ap, subst, ◌∙◌, ⊎_elim, arith, pow_pos}
+use Rattle.std.proofs.lemmas.List.{length_push}
 use Rattle.std.proofs.lemmas.Bool.{lt-ltb, eq-eqb, le-leb, lt-leb, and_from, and_parts, eqb-true, ltb-true, leb-true, true≢false, false≢true}
 use Rattle.rules.specs.declared.record.Record.{Record}
+use Rattle.rules.specs.declared.rule.Rule.{Rule}
 use Rattle.rules.specs.declared.rule.Shape.{Shape}
-use Rattle.rules.specs.Records.{good, ruled, signed}
+use Rattle.rules.specs.Records.{good, ruled, signed, Checks}
 use Rattle.rules.specs.Refusals.{first_met, Judged}
 use Rattle.rules.proofs.Refusing.{none_met, one_met}
 use Rattle.racks.specs.Meaning.{Meaning, Kept, shaped}
@@ -15,12 +17,12 @@ use Rattle.laying.specs.Laying.{Ground, used, Begins, Lays, Withdraws}
 use Rattle.kiosk.specs.declared.call.Call.{Call}
 use Rattle.kiosk.specs.declared.call.Call.TheVariants.{Begin, Lay, Withdraw, Open, Fact as Stating}
 use Rattle.kiosk.specs.declared.fault.KioskFault.{KioskFault}
-use Rattle.kiosk.specs.declared.fault.KioskFault.TheVariants.{Rack, NoRoom, BadFact, RulesFull}
+use Rattle.kiosk.specs.declared.fault.KioskFault.TheVariants.{Rack, BadFact, RulesFull}
 use Rattle.kiosk.specs.declared.slip.Fact.{Fact}
-use Rattle.kiosk.specs.Slip.{Finds, re_signed}
-use Rattle.kiosk.specs.Book.{Book, Stepped, Table, judged, step, written, Does, total, with_sheets}
+use Rattle.kiosk.specs.Slip.{Finds, re_signed, matters_in}
+use Rattle.kiosk.specs.Book.{Book, Stepped, Table, judged, step, written, Does, total, with_sheets, in_session}
 use Rattle.kiosk.specs.Standing.{booked, sheets_of, slip_of, seated}
-use Rattle.kiosk.specs.Facts.{not_named, named, noted_found, noted_new}
+use Rattle.kiosk.specs.Facts.{not_named, named, noted_found, noted_new, length_re_signed}
 use Rattle.kiosk.specs.Sheets.{length_sheets, sheets_begun, sheets_laid, sheets_withdrawn, used_sheets, total_sheets}
 
 -- Refusals of the rack below
@@ -76,6 +78,9 @@ passes t old new k s (Err f) P Q e p q j =
     let d = refused t old new f j.0 in
     (d.0 ∙ sym (ap (λ (x : Stepped). x.answer) e), q j.1 ∙ d.1 ∙ sym (ap (λ (x : Stepped). x.book) e))
 
+pub kept_below : {m n : Meaning} → m ≡ n → Kept n → Kept m
+kept_below e kept = subst Kept (sym e) kept
+
 module _ (g h : Ground) (kept : Kept g.meaning) where
   abbrev same : h ≡ g → booked h None ≡ booked g None
   same e = ap (λ (k : Ground). booked k None) e
@@ -117,39 +122,32 @@ module _ (g h : Ground) (kept : Kept g.meaning) where
 
 -- Sessions
 
--- no session: the book has no slip
-pub unseated : (C : Call) (b : Bool) (fs : List Fact) (g : Ground) (r : Result (Unit {0}) KioskFault) (k : Book) → b ≡ false → Does (step (booked g None) C) r k → Does (step (booked g (slip_of b fs)) C) r k
-unseated C true fs g r k e d = absurd (true≢false e)
-unseated C false fs g r k e d = d
+-- no session before and none after: neither book has a slip
+pub passed_on : (C : Call) (g h : Ground) (b : Bool) (fs : List Fact) (o : Option ℕ) (es : List Fact) (r : Result (Unit {0}) KioskFault) → in_session (slip_of b fs) ≡ false → o ≡ None → Does (step (booked g None) C) r (booked h None) → Does (step (booked g (slip_of b fs)) C) r (booked h (slip_of (seated (shaped h.meaning) o es) es))
+passed_on C g h true fs o es r e n d = absurd (true≢false e)
+passed_on C g h false fs o es r e n d = rw n d
 
 -- a test of the shape below is one of what the rack below stands for
-pub seated_is : {v : Bool} (w : Bool) {below : Shape} (m : Meaning) (n : ℕ) (o : Bool) (fs : List Fact) → below ≡ shaped m → v ≡ seated below n o fs → v ≡ w → seated (shaped m) n o fs ≡ w
-seated_is w m n o fs q h e = sym (h ∙ ap (λ (x : Shape). seated x n o fs) q) ∙ e
+pub seated_is : {v : Bool} (w : Bool) {below : Shape} (m : Meaning) (o : Option ℕ) (fs : List Fact) → below ≡ shaped m → v ≡ seated below o fs → v ≡ w → seated (shaped m) o fs ≡ w
+seated_is w m o fs q h e = sym (h ∙ ap (λ (x : Shape). seated x o fs) q) ∙ e
 
-pub seated_from : (m : Meaning) (n : ℕ) (o : Bool) (fs : List Fact) → o ≡ true → m.matters ≡ n → m.sheets < 32 → length m.rules + length fs ≤ 256 → seated (shaped m) n o fs ≡ true
-seated_from m n o fs t e l s = and_from _ _ t (and_from _ _ (eq-eqb _ _ e) (and_from _ _ (lt-ltb _ _ l) (le-leb _ _ s)))
+pub seated_from : (m : Meaning) (o : Option ℕ) (fs : List Fact) → o ≡ Some m.matters → m.sheets < 32 → length m.rules + length fs ≤ 256 → seated (shaped m) o fs ≡ true
+seated_from m o fs e l s = rw e (and_from _ _ (eq-eqb m.matters m.matters refl) (and_from _ _ (lt-ltb _ _ l) (le-leb _ _ s)))
 
-pub seated_parts : (m : Meaning) (n : ℕ) (o : Bool) (fs : List Fact) → seated (shaped m) n o fs ≡ true → (o ≡ true) × (m.matters ≡ n) × (m.sheets < 32) × (length m.rules + length fs ≤ 256)
-seated_parts m n o fs h =
-    let a = and_parts o _ h in
-    let b = and_parts (m.matters == n) _ a.1 in
+pub seated_parts : (m : Meaning) (o : Option ℕ) (fs : List Fact) → seated (shaped m) o fs ≡ true → (o ≡ Some m.matters) × (m.sheets < 32) × (length m.rules + length fs ≤ 256)
+seated_parts m None fs h = absurd (false≢true h)
+seated_parts m (Some n) fs h =
+    let b = and_parts (m.matters == n) _ h in
     let c = and_parts (nat_lt m.sheets 32) (nat_le (length m.rules + length fs) 256) b.1 in
-    (a.0, eqb-true _ _ b.0, ltb-true _ _ c.0, leb-true _ _ c.1)
+    (ap Some (sym (eqb-true _ _ b.0)), ltb-true _ _ c.0, leb-true _ _ c.1)
 
-pub open_full : (g : Ground) (b : Bool) (fs : List Fact) → b ≡ false → 32 ≤ g.meaning.sheets → Does (step (booked g (slip_of b fs)) Open) (Err NoRoom) (booked g (slip_of b fs))
-open_full g true fs e h = absurd (true≢false e)
-open_full g false fs e h =
-    let n = g.meaning.sheets in
-    let t : leb 32 (length (sheets_of n g.meaning.rules)) ≡ true = le-leb _ _ (omega (arith, length_sheets n g.meaning.rules)) in
-    rw t (refl, refl)
-
-pub open_done : (g : Ground) (b : Bool) (fs : List Fact) → b ≡ false → g.meaning.sheets < 32 → (t : Bool) (es : List Fact) → t ≡ true → es ≡ [] → Does (step (booked g (slip_of b fs)) Open) (Ok tt) (booked g (slip_of t es))
-open_done g true fs e h t es te ee = absurd (true≢false e)
-open_done g false fs e h false es te ee = absurd (false≢true te)
-open_done g false fs e h true es te ee =
+pub open_done : (g : Ground) (b : Bool) (fs : List Fact) (o : Option ℕ) (es : List Fact) → in_session (slip_of b fs) ≡ false → Kept g.meaning → g.meaning.sheets < 32 → o ≡ Some g.meaning.matters → es ≡ [] → Does (step (booked g (slip_of b fs)) Open) (Ok tt) (booked g (slip_of (seated (shaped g.meaning) o es) es))
+open_done g true fs o es e kept l m z = absurd (true≢false e)
+open_done g false fs o es e kept l m z =
     let n = g.meaning.sheets in
     let t : leb 32 (length (sheets_of n g.meaning.rules)) ≡ false = lt-leb _ _ (omega (arith, length_sheets n g.meaning.rules)) in
-    rw t (refl, ap (λ (ys : List Fact). booked g (Some ys)) ee)
+    let sat = seated_from g.meaning o es m l (omega (arith, kept.few_rules, ap length z)) in
+    rw (t, sat) (refl, ap (λ (ys : List Fact). booked g (Some ys)) z)
 
 -- Facts
 
@@ -165,36 +163,64 @@ good_fact n a s = let p = lt-ltb 0 (2 ^ n) (pow_pos n) in rw p (go (nat_lt a n) 
     go true false = refl
     go false c = refl
 
-pub sound_fact : (n a s : ℕ) → good n (fact_record a s) ≡ true → a < n
-sound_fact n a s h = ltb-true a n (and_parts (nat_lt a n) _ h).0
+-- a session is open on a rack of this shape, with this slip
+pub record Opened (g : Ground) (below : Shape) (o : Option ℕ) (fs : List Fact) : Type 0 where
+  pub kept : Kept g.meaning
+  pub shape : below ≡ shaped g.meaning
+  pub seat : seated (shaped g.meaning) o fs ≡ true
+  pub matters : o ≡ Some g.meaning.matters
+  pub sheets : g.meaning.sheets < 32
+  pub rules : length g.meaning.rules + length fs ≤ 256
 
-module _ (g : Ground) (b : Bool) (fs : List Fact) (a s : ℕ) (kept : Kept g.meaning) where
-  pub fact_bad : b ≡ true → good g.meaning.matters (fact_record a s) ≡ false → Does (step (booked g (slip_of b fs)) (Stating a s)) (Err BadFact) (booked g (slip_of b fs))
-  fact_bad e h = elim b as (λ c. c ≡ true → Does (step (booked g (slip_of c fs)) (Stating a s)) (Err BadFact) (booked g (slip_of c fs))) [
-    | true ↦ λ _. let q = sym (good_fact g.meaning.matters a s) ∙ h in rw q (refl, refl)
-    | false ↦ λ z. absurd (false≢true z)
-  ] e
+pub opened : {v : Bool} (g : Ground) (below : Shape) (o : Option ℕ) (fs : List Fact) → Kept g.meaning → below ≡ shaped g.meaning → v ≡ seated below o fs → v ≡ true → Opened g below o fs
+opened g below o fs kept q h e =
+    let sat = seated_is true g.meaning o fs q h e in
+    let p = seated_parts g.meaning o fs sat in
+    record { kept = kept; shape = q; seat = sat; matters = p.0; sheets = p.1; rules = p.2 }
 
-  pub fact_found : (i : ℕ) → b ≡ true → good g.meaning.matters (fact_record a s) ≡ true → Finds fs a (Some i) → (t : Bool) (es : List Fact) → t ≡ true → es ≡ re_signed fs i (signed s) → Does (step (booked g (slip_of b fs)) (Stating a s)) (Ok tt) (booked g (slip_of t es))
-  fact_found i e h f t es te ee =
-      let q = sym (good_fact g.meaning.matters a s) ∙ h in
+pub sound_fact : {g : Ground} {below : Shape} {o : Option ℕ} {fs : List Fact} → Opened g below o fs → (a s : ℕ) → good below.matters (fact_record a s) ≡ true → a < matters_in o
+sound_fact {g} {below} t a s h =
+    let lt = ltb-true a below.matters (and_parts (nat_lt a below.matters) _ h).0 in
+    omega (arith, lt, ap (λ (x : Shape). x.matters) t.shape, ap matters_in t.matters)
+
+module _ {g : Ground} {below : Shape} {o : Option ℕ} {fs : List Fact} (t : Opened g below o fs) (a s : ℕ) where
+  read_as : (b : Bool) → good below.matters (fact_record a s) ≡ b → (nat_lt a g.meaning.matters && nat_le s 1) ≡ b
+  read_as b h = sym (ap (λ (x : Shape). good x.matters (fact_record a s)) t.shape ∙ good_fact g.meaning.matters a s) ∙ h
+
+  pub fact_bad : good below.matters (fact_record a s) ≡ false → Does (step (booked g (slip_of (seated (shaped g.meaning) o fs) fs)) (Stating a s)) (Err BadFact) (booked g (slip_of (seated (shaped g.meaning) o fs) fs))
+  fact_bad h =
+      let e = t.seat in
+      let q = read_as false h in
+      rw e (rw q (refl, refl))
+
+  pub fact_found : (r : Rule) → Checks below.matters below.sheets (fact_record a s) (Some r) → (i : ℕ) → Finds fs a (Some i) → (es : List Fact) → es ≡ re_signed fs i r.sign → Does (step (booked g (slip_of (seated (shaped g.meaning) o fs) fs)) (Stating a s)) (Ok tt) (booked g (slip_of (seated (shaped g.meaning) o es) es))
+  fact_found r h i f es ee =
+      let e = t.seat in
+      let q = read_as true h.0 in
       let m = named fs a i f in
-      rw (e, te) (rw (q, m) (refl, ap (λ (ys : List Fact). booked g (Some ys)) (ee ∙ sym (noted_found fs a i (signed s) f))))
+      let es-is : es ≡ re_signed fs i (signed s) = ee ∙ ap (λ (y : Rule). re_signed fs i y.sign) h.1 in
+      let te = seated_from g.meaning o es t.matters t.sheets (omega (arith, t.rules, ap length es-is, length_re_signed fs i (signed s))) in
+      rw (e, te) (rw (q, m) (refl, ap (λ (ys : List Fact). booked g (Some ys)) (es-is ∙ sym (noted_found fs a i (signed s) f))))
 
-  pub fact_full : b ≡ true → good g.meaning.matters (fact_record a s) ≡ true → Finds fs a None → 256 ≤ length g.meaning.rules + length fs → Does (step (booked g (slip_of b fs)) (Stating a s)) (Err RulesFull) (booked g (slip_of b fs))
-  fact_full e h f l =
+  pub fact_full : good below.matters (fact_record a s) ≡ true → Finds fs a None → 256 ≤ below.rules + length fs → Does (step (booked g (slip_of (seated (shaped g.meaning) o fs) fs)) (Stating a s)) (Err RulesFull) (booked g (slip_of (seated (shaped g.meaning) o fs) fs))
+  fact_full h f l =
       let n = g.meaning.sheets in
       let P = g.meaning.rules in
-      let q = sym (good_fact g.meaning.matters a s) ∙ h in
+      let e = t.seat in
+      let q = read_as true h in
       let m = not_named fs a f in
-      let t : leb 256 (total (sheets_of n P) + length fs) ≡ true = le-leb _ _ (omega (arith, total_sheets n P (λ i j. (kept.sound i j).0))) in
-      rw e (rw (q, m, t) (refl, refl))
+      let u : leb 256 (total (sheets_of n P) + length fs) ≡ true = le-leb _ _ (omega (arith, l, ap (λ (x : Shape). x.rules) t.shape, total_sheets n P (λ i j. (t.kept.sound i j).0))) in
+      rw e (rw (q, m, u) (refl, refl))
 
-  pub fact_added : b ≡ true → good g.meaning.matters (fact_record a s) ≡ true → Finds fs a None → length g.meaning.rules + length fs < 256 → (t : Bool) (es : List Fact) → t ≡ true → es ≡ fs ++ (record { matter = a; sign = signed s } ∷ []) → Does (step (booked g (slip_of b fs)) (Stating a s)) (Ok tt) (booked g (slip_of t es))
-  fact_added e h f l t es te ee =
+  pub fact_added : (r : Rule) → Checks below.matters below.sheets (fact_record a s) (Some r) → Finds fs a None → below.rules + length fs < 256 → (es : List Fact) → es ≡ fs ++ (record { matter = a; sign = r.sign } ∷ []) → Does (step (booked g (slip_of (seated (shaped g.meaning) o fs) fs)) (Stating a s)) (Ok tt) (booked g (slip_of (seated (shaped g.meaning) o es) es))
+  fact_added r h f l es ee =
       let n = g.meaning.sheets in
       let P = g.meaning.rules in
-      let q = sym (good_fact g.meaning.matters a s) ∙ h in
+      let e = t.seat in
+      let q = read_as true h.0 in
       let m = not_named fs a f in
-      let u : leb 256 (total (sheets_of n P) + length fs) ≡ false = lt-leb _ _ (omega (arith, total_sheets n P (λ i j. (kept.sound i j).0))) in
-      rw (e, te) (rw (q, m, u) (refl, ap (λ (ys : List Fact). booked g (Some ys)) (ee ∙ sym (noted_new fs a (signed s) f))))
+      let lt : length P + length fs < 256 = omega (arith, l, ap (λ (x : Shape). x.rules) t.shape) in
+      let u : leb 256 (total (sheets_of n P) + length fs) ≡ false = lt-leb _ _ (omega (arith, lt, total_sheets n P (λ i j. (t.kept.sound i j).0))) in
+      let es-is : es ≡ fs ++ (record { matter = a; sign = signed s } ∷ []) = ee ∙ ap (λ (y : Rule). fs ++ (record { matter = a; sign = y.sign } ∷ [])) h.1 in
+      let te = seated_from g.meaning o es t.matters t.sheets (omega (arith, lt, ap length es-is, length_push fs (record { matter = a; sign = signed s }))) in
+      rw (e, te) (rw (q, m, u) (refl, ap (λ (ys : List Fact). booked g (Some ys)) (es-is ∙ sym (noted_new fs a (signed s) f))))

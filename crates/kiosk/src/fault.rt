@@ -3,7 +3,7 @@ ghost use Rattle.kiosk.specs.declared.fault.KioskFault.TheVariants.{Rack};
 ghost use Rattle.kiosk.specs.Faults.{kiosk_number, kiosk_layer};
 
 use laying::fault::RackFault;
-use rules::refusal::Layer;
+use rules::refusal::{Layer, Refusal};
 
 // Why a kiosk refuses. A refusal of the rack below is held whole.
 #[derive(Clone, Copy, PartialEq, Eq, Debug)]
@@ -17,10 +17,12 @@ pub enum KioskFault {
     Rack(RackFault),
 }
 
-impl KioskFault {
-    pub fn number(self) -> u8
-        ensures { result ≡ kiosk_number self }
-    {
+impl Refusal for KioskFault {
+    ghost numbered = { kiosk_number };
+
+    ghost layered = { kiosk_layer };
+
+    fn number(self) -> u8 {
         match self {
             KioskFault::SessionOpen => 21,
             KioskFault::NoRoom => 22,
@@ -32,10 +34,8 @@ impl KioskFault {
         }
     }
 
-    // The layer that refused: a refusal of the rack below is the rack's.
-    pub fn layer(self) -> Layer
-        ensures { result ≡ kiosk_layer self }
-    {
+    // A refusal of the rack below is the rack's.
+    fn layer(self) -> Layer {
         match self {
             KioskFault::Rack(fault) => fault.layer(),
             _ => Layer::Kiosk,

@@ -1,14 +1,18 @@
-ghost use Rattle.std.specs.Prelude.{◌≡◌, ◌+◌, ◌<◌, ◌≤◌, [], ◌∷◌, ◌++◌, map, length, vec_len, vec_capacity, slice_index_or};
-ghost use Rattle.std.specs.Borrow.{sem, follows};
-ghost use Rattle.std.specs.List.{slice_get};
-ghost use Rattle.std.specs.Vec.{with_item};
+ghost use Rattle.std.specs.Prelude.{◌≡◌, ◌+◌, ◌<◌, ◌≤◌, [], ◌∷◌, ◌++◌, map, length};
+ghost use Rattle.std.specs.Borrow.{sem, LendsIf};
+ghost use Rattle.std.specs.List.{slice_get, IsItemAtMut};
+ghost use Rattle.arrayvec.specs.ArrayVec.{with_item};
 ghost use Rattle.rules.specs.Held.{held};
 ghost use Rattle.kiosk.specs.contracts.slip.Slip.{the_row as slip-row};
 ghost use Rattle.kiosk.specs.contracts.slip.Fact.{the_row as fact-row};
 ghost use Rattle.kiosk.specs.Slip.{Finds, re_signed, fact_rule};
 
+use arrayvec::ArrayVec;
 use rules::rule::{Rule, Sign};
 use rules::table::Table;
+
+// The most facts that a slip holds: one on each matter.
+const MOST_FACTS: usize = 16;
 
 // A fact of the slip: a matter with its sign.
 #[derive(Clone, Copy, PartialEq, Eq, Debug)]
@@ -17,15 +21,34 @@ pub struct Fact {
     pub sign: Sign,
 }
 
-// The table of a session's facts. Its places are reserved when the kiosk is set up.
+// What a slip's free places hold.
+impl Default for Fact {
+    fn default() -> Fact {
+        Fact {
+            matter: 0,
+            sign: Sign::No,
+        }
+    }
+}
+
+// The table of a session's facts, with a place for each matter and no heap, so that no call can fail for want of memory.
 #[derive(Drop)]
 pub struct Slip {
-    pub(crate) facts: Vec<Fact>,
+    pub(crate) facts: ArrayVec<Fact, MOST_FACTS>,
 }
 
 impl Slip {
+    pub(crate) fn new() -> Slip
+        ensures { result.facts.items ≡ [] }
+    {
+        Slip {
+            facts: ArrayVec::new(),
+        }
+    }
+
     pub(crate) fn len(&self) -> usize
-        ensures { result ≡ vec_len self.now.facts }
+        ensures value { result ≡ length self.now.facts.items }
+        ensures fits { result ≤ 16 }
     {
         self.facts.len()
     }
@@ -34,58 +57,49 @@ impl Slip {
     pub(crate) fn fact(&self, i: usize) -> Option<Fact>
         ensures { result ≡ slice_get self.now.facts.items i }
     {
-        if i < self.facts.len() {
-            Some(self.facts[i])
-        } else {
-            None
-        }
+        self.facts.get(i).copied()
     }
 
     // Where the fact on a matter lies.
     pub(crate) fn find(&self, matter: u8) -> Option<usize>
         ensures { Finds self.now.facts.items matter result }
     {
-        for (i, fact) in self.facts.iter().enumerate() {
-            if fact.matter == matter {
-                return Some(i);
-            }
-        }
-        None
+        self.facts.iter().position(|fact| fact.matter == matter)
     }
 
-    // Lends the fact at a place.
-    pub(crate) fn lend(&mut self, i: usize) -> &mut Fact
-        requires { i < vec_len self.old.facts }
-        ensures* follows { sem 𝓛 (follows slip-row fact-row self.entry.ghost_name result.ghost_name (λ w. record { facts = with_item self.old.facts i w })) }
-        ensures value { result.now ≡ slice_index_or self.old.facts.items i result.now }
+    // Lends the fact at a place, if there is one.
+    pub(crate) fn lend(&mut self, i: usize) -> Option<&mut Fact>
+        ensures* lends { sem 𝓛 (LendsIf slip-row fact-row self.entry result (λ w. record { facts = with_item self.old.facts i w }) self.old) }
+        ensures item { IsItemAtMut self.old.facts.items i result }
     {
-        &mut self.facts[i]
+        self.facts.get_mut(i)
     }
 
     // Changes the sign of a fact where it lies.
     pub(crate) fn change(&mut self, i: usize, sign: Sign)
-        requires { i < vec_len self.old.facts }
-        ensures { (self.new.facts.items ≡ re_signed self.old.facts.items i sign) × ((vec_len self.new.facts ≡ vec_len self.old.facts) × (vec_capacity self.new.facts ≡ vec_capacity self.old.facts)) }
+        ensures { self.new.facts.items ≡ re_signed self.old.facts.items i sign }
     {
-        self.lend(i).sign = sign;
+        if let Some(fact) = self.lend(i) {
+            fact.sign = sign;
+        }
     }
 
     pub(crate) fn add(&mut self, fact: Fact)
-        requires { vec_len self.old.facts < vec_capacity self.old.facts }
-        ensures { (self.new.facts.items ≡ self.old.facts.items ++ (fact ∷ [])) × ((vec_len self.new.facts ≡ vec_len self.old.facts + 1) × (vec_capacity self.new.facts ≡ vec_capacity self.old.facts)) }
+        requires { length self.old.facts.items < 16 }
+        ensures { self.new.facts.items ≡ self.old.facts.items ++ (fact ∷ []) }
     {
-        self.facts.push_reserved(fact);
+        self.facts.push(fact);
     }
 
     pub(crate) fn clear(&mut self)
-        ensures { (self.new.facts.items ≡ []) × ((vec_len self.new.facts ≡ 0) × (vec_capacity self.new.facts ≡ vec_capacity self.old.facts)) }
+        ensures { self.new.facts.items ≡ [] }
     {
         self.facts.clear();
     }
 
     // Adds the facts to a table, as rules of the sheet with this number.
     pub(crate) fn append_to(&self, table: &mut Table, sheet: u8)
-        requires { length (held table.old) + vec_len self.now.facts ≤ 256 }
+        requires { length (held table.old) + length self.now.facts.items ≤ 256 }
         ensures { held table.new ≡ held table.old ++ map (fact_rule sheet) self.now.facts.items }
     {
         for fact in self.facts.iter() {

@@ -53,7 +53,7 @@ module _ (m o : Meaning) (k : Kept m) where
       ∙ append-nil (filter (under s) m.rules)
       ∙ all_under s (omega arith))
 
-  pub over_grounded : (b : Bool) → fits (shaped m) (shaped o) ≡ b → Grounded (over b m o) m.sheets (own_places (shaped m))
+  pub over_grounded : (b : Bool) → fits (shaped m) (shaped o) ≡ b → Grounded (ground (over b m o) m.sheets (own_places (shaped m)))
   over_grounded true e =
       let f = fit_from (shaped m) (shaped o) e in
       let own = f.few_rules in

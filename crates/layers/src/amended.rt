@@ -84,9 +84,9 @@ impl<R: Rack> Rack for Amended<R> {
 }
 
 impl<R: Rack> OpenRack for Amended<R> {
-    ghost floor = { λ p. (R.Rack.meaning p.below).sheets };
+    ghost state = { λ p. stood (R.Rack.meaning p.below) (pocket_meaning p.own) };
 
-    ghost places = { λ p. own_places (shaped (R.Rack.meaning p.below)) };
+    ghost same_meaning = { λ x. refl };
 
     ghost grounded = { λ x. over_grounded (R.Rack.meaning x.below) (pocket_meaning x.own) (R.Rack.kept x.below) _ refl };
 

@@ -11,7 +11,7 @@ use Rattle.rules.specs.Records.{good, ruled}
 use Rattle.racks.specs.Meaning.{Meaning, Sound, Throughout, Rising}
 use Rattle.racks.proofs.Listed.{good_sound, rising_append}
 use Rattle.racks.specs.Tables.{push_room}
-use Rattle.laying.specs.Laying.{Grounded, under, used, below_floor}
+use Rattle.laying.specs.Laying.{ground, Grounded, under, used, below_floor}
 use Rattle.laying.specs.Chosen.{kept_all, kept_none}
 
 pub all_of : (Q : Rule → Type 0) (P : List Rule) → Throughout Q P → AllByRecursion Q P
@@ -31,7 +31,7 @@ pub below_none : (m : Meaning) → below_floor m 0 ≡ 0
 below_none m = ap length (kept_none (under 0) m.rules (every _ _ (λ r. le-ltb r.sheet 0 (omega arith))))
 
 -- all its sheets are above the floor, and have room in 64 places
-pub grounded_low : (m : Meaning) → length m.rules ≤ 64 → Grounded m 0 64
+pub grounded_low : (m : Meaning) → length m.rules ≤ 64 → Grounded (ground m 0 64)
 grounded_low m l =
     let u = used_all m in
     let b = below_none m in

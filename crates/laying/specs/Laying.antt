@@ -28,10 +28,10 @@ abbrev pub below_floor : Meaning → ℕ → ℕ
 below_floor m floor = length (filter (under floor) m.rules)
 
 -- what every open rack keeps to
-pub record Grounded (m : Meaning) (floor places : ℕ) : Type 0 where
-  pub floored : floor ≤ m.sheets
-  pub housed : used m floor ≤ places
-  pub bounded : places + below_floor m floor ≤ 256
+pub record Grounded (g : Ground) : Type 0 where
+  pub floored : g.floor ≤ g.meaning.sheets
+  pub housed : used g.meaning g.floor ≤ g.places
+  pub bounded : g.places + below_floor g.meaning g.floor ≤ 256
 
 -- What the calls make of a meaning
 

@@ -5,7 +5,7 @@ use Rattle.std.proofs.lemmas.Bool.{cases_Bool}
 use Rattle.rules.specs.declared.rule.Rule.{Rule}
 use Rattle.rules.specs.Semantics.{Overruling, Total, Lists, struck, holds, body}
 use Rattle.rules.proofs.Tautologies.{equal_struck, same_lists}
-use Rattle.racks.specs.Meaning.{Meaning}
+use Rattle.laying.specs.Laying.{Ground}
 use Rattle.evaluator.specs.declared.answer.EvaluatorFault.{EvaluatorFault}
 use Rattle.kiosk.specs.declared.call.Call.{Call}
 use Rattle.kiosk.specs.Book.{Book, Sheet}
@@ -45,18 +45,18 @@ same_fronts over b c old new old' new' k j total e l m =
     (subst (λ (n : ℕ). Lists (shown c).rules over n (take j new')) (sym e.matters) m.listed.front)
 
 -- the last listing of a run that had places enough
-listed_last : {R : Type 0} (m : R → Meaning) (f p : R → ℕ) (over : Overruling) (places : ℕ) (s : Start R) (calls : List Call) (old new : List ℕ) (r : Result (Run R × Result ℕ EvaluatorFault) (Start R)) (k : ℕ) → listed_count r ≡ Some k → Replays m f p over places s calls old new r → Listing over (after (first m f p s.rack) calls) old new (Ok k)
-listed_last m f p over places s calls old new (Err e) k q h = let z : ◌≡◌ {A = ℕ} 0 1 = cc in absurd (omega arith)
-listed_last m f p over places s calls old new (Ok x) k q h = go x.1 q h.1
+listed_last : {R : Type 0} (g : R → Ground) (over : Overruling) (places : ℕ) (s : Start R) (calls : List Call) (old new : List ℕ) (r : Result (Run R × Result ℕ EvaluatorFault) (Start R)) (k : ℕ) → listed_count r ≡ Some k → Replays g over places s calls old new r → Listing over (after (first g s.rack) calls) old new (Ok k)
+listed_last g over places s calls old new (Err e) k q h = let z : ◌≡◌ {A = ℕ} 0 1 = cc in absurd (omega arith)
+listed_last g over places s calls old new (Ok x) k q h = go x.1 q h.1
   where
-    go : (r : Result ℕ EvaluatorFault) → counted r ≡ Some k → Listing over (after (first m f p s.rack) calls) old new r → Listing over (after (first m f p s.rack) calls) old new (Ok k)
+    go : (r : Result ℕ EvaluatorFault) → counted r ≡ Some k → Listing over (after (first g s.rack) calls) old new r → Listing over (after (first g s.rack) calls) old new (Ok k)
     go (Err e) q l = let z : ◌≡◌ {A = ℕ} 0 1 = cc in absurd (omega arith)
-    go (Ok n) q l = let e : n ≡ k = cc in subst (λ (i : ℕ). Listing over (after (first m f p s.rack) calls) old new (Ok i)) e l
+    go (Ok n) q l = let e : n ≡ k = cc in subst (λ (i : ℕ). Listing over (after (first g s.rack) calls) old new (Ok i)) e l
 
-pub same_ends : {R S : Type 0} (m : R → Meaning) (f p : R → ℕ) (m' : S → Meaning) (f' p' : S → ℕ) (over : Overruling) (places : ℕ) (s : Start R) (s' : Start S) (calls calls' : List Call) (old new old' new' : List ℕ) (r : Result (Run R × Result ℕ EvaluatorFault) (Start R)) (r' : Result (Run S × Result ℕ EvaluatorFault) (Start S))
-    → Total over → Replays m f p over places s calls old new r → Replays m' f' p' over places s' calls' old' new' r'
-    → (k j : ℕ) → listed_count r ≡ Some k → listed_count r' ≡ Some j → SameButTautologies (after (first m f p s.rack) calls) (after (first m' f' p' s'.rack) calls') → take k new ≡ take j new'
-same_ends m f p m' f' p' over places s s' calls calls' old new old' new' r r' total h h' k j q q' e =
-    same_fronts over (after (first m f p s.rack) calls) (after (first m' f' p' s'.rack) calls') old new old' new' k j total e
-    (listed_last m f p over places s calls old new r k q h)
-    (listed_last m' f' p' over places s' calls' old' new' r' j q' h')
+pub same_ends : {R S : Type 0} (g : R → Ground) (h : S → Ground) (over : Overruling) (places : ℕ) (s : Start R) (s' : Start S) (calls calls' : List Call) (old new old' new' : List ℕ) (r : Result (Run R × Result ℕ EvaluatorFault) (Start R)) (r' : Result (Run S × Result ℕ EvaluatorFault) (Start S))
+    → Total over → Replays g over places s calls old new r → Replays h over places s' calls' old' new' r'
+    → (k j : ℕ) → listed_count r ≡ Some k → listed_count r' ≡ Some j → SameButTautologies (after (first g s.rack) calls) (after (first h s'.rack) calls') → take k new ≡ take j new'
+same_ends g h over places s s' calls calls' old new old' new' r r' total one other k j q q' e =
+    same_fronts over (after (first g s.rack) calls) (after (first h s'.rack) calls') old new old' new' k j total e
+    (listed_last g over places s calls old new r k q one)
+    (listed_last h over places s' calls' old' new' r' j q' other)

@@ -1,5 +1,5 @@
 -- Which calls keep a session as it is, and one step of a string of calls.
-use Rattle.std.proofs.Common.{◌≡◌, ℕ, ◌+◌, ◌-◌, ◌<◌, ◌≤◌, true, false, cond, List, [], ◌∷◌, ◌++◌, length, get_or, drop, replicate, Some, None, Err, vec_items, vec_len, Option, Result, Vec, sym, refl, ap, ◌∙◌, subst, arith}
+use Rattle.std.proofs.Common.{◌≡◌, ℕ, ◌+◌, ◌-◌, ◌<◌, ◌≤◌, Bool, true, false, cond, List, [], ◌∷◌, ◌++◌, length, get_or, drop, replicate, Some, None, Err, vec_items, vec_len, Option, Result, Vec, sym, refl, ap, ◌∙◌, subst, arith}
 use Rattle.std.specs.List.{AllByRecursion}
 use Rattle.std.proofs.lemmas.List.{at_drop_more, append_assoc, append-nil, drop_all}
 use Rattle.rules.specs.declared.record.Record.{Record}
@@ -8,31 +8,32 @@ use Rattle.kiosk.specs.declared.call.Call.{Call}
 use Rattle.kiosk.specs.declared.call.Call.TheVariants.{Begin, Lay, Withdraw, Fact as Stating}
 use Rattle.kiosk.specs.declared.fault.KioskFault.{KioskFault}
 use Rattle.kiosk.specs.declared.slip.Fact.{Fact}
-use Rattle.kiosk.specs.Book.{Book, Table, table, written, judged, step, Does, with_slip}
+use Rattle.kiosk.specs.Book.{Book, Table, table, written, judged, step, Does, with_slip, in_session}
+use Rattle.runs.specs.declared.run.Purse.{Purse}
 use Rattle.runs.specs.declared.run.Answer.{Answer}
 use Rattle.runs.specs.declared.run.Answer.TheVariants.{Done}
-use Rattle.runs.specs.Purse.{sessions, Pursed, Stocked}
+use Rattle.runs.specs.Purse.{Pursed, Stocked}
 use Rattle.runs.specs.Running.{Answers, Runs, after, asks}
 
-judged_keeps : (t : Table) (old new : Book) (n : ℕ) → sessions old.slip ≡ n → sessions new.slip ≡ n → sessions (judged t old new).book.slip ≡ n
-judged_keeps [] old new n p q = q
-judged_keeps (c ∷ cs) old new n p q =
-    elim c.1 as (λ b. sessions (cond b (record { book = old; answer = Err c.0 }) (judged cs old new)).book.slip ≡ n) [ true ↦ p | false ↦ judged_keeps cs old new n p q ]
+judged_keeps : (t : Table) (old new : Book) (b : Bool) → in_session old.slip ≡ b → in_session new.slip ≡ b → in_session (judged t old new).book.slip ≡ b
+judged_keeps [] old new b p q = q
+judged_keeps (c ∷ cs) old new b p q =
+    elim c.1 as (λ t. in_session (cond t (record { book = old; answer = Err c.0 }) (judged cs old new)).book.slip ≡ b) [ true ↦ p | false ↦ judged_keeps cs old new b p q ]
 
-pub begin_keeps : (b : Book) → sessions (step b Begin).book.slip ≡ sessions b.slip
+pub begin_keeps : (b : Book) → in_session (step b Begin).book.slip ≡ in_session b.slip
 begin_keeps b = judged_keeps (table b Begin) b (written b Begin) _ refl refl
 
-pub lay_keeps : (b : Book) (x : Record) → sessions (step b (Lay x)).book.slip ≡ sessions b.slip
+pub lay_keeps : (b : Book) (x : Record) → in_session (step b (Lay x)).book.slip ≡ in_session b.slip
 lay_keeps b x = judged_keeps (table b (Lay x)) b (written b (Lay x)) _ refl refl
 
-pub withdraw_keeps : (b : Book) → sessions (step b Withdraw).book.slip ≡ sessions b.slip
+pub withdraw_keeps : (b : Book) → in_session (step b Withdraw).book.slip ≡ in_session b.slip
 withdraw_keeps b = judged_keeps (table b Withdraw) b (written b Withdraw) _ refl refl
 
-fact_by : (b : Book) (o : Option (List Fact)) (a s : ℕ) → sessions (step (with_slip b o) (Stating a s)).book.slip ≡ sessions o
+fact_by : (b : Book) (o : Option (List Fact)) (a s : ℕ) → in_session (step (with_slip b o) (Stating a s)).book.slip ≡ in_session o
 fact_by b None a s = refl
-fact_by b (Some fs) a s = judged_keeps (table (with_slip b (Some fs)) (Stating a s)) (with_slip b (Some fs)) (written (with_slip b (Some fs)) (Stating a s)) 1 refl refl
+fact_by b (Some fs) a s = judged_keeps (table (with_slip b (Some fs)) (Stating a s)) (with_slip b (Some fs)) (written (with_slip b (Some fs)) (Stating a s)) true refl refl
 
-pub fact_keeps : (b : Book) (a s : ℕ) → sessions (step b (Stating a s)).book.slip ≡ sessions b.slip
+pub fact_keeps : (b : Book) (a s : ℕ) → in_session (step b (Stating a s)).book.slip ≡ in_session b.slip
 fact_keeps b a s = fact_by b b.slip a s
 
 -- a call that is made as the book's step says
@@ -43,8 +44,8 @@ pub done_book : (b k : Book) (c d : Call) → c ≡ d → k ≡ (step b d).book 
 done_book b k c d e h = h ∙ ap (λ (x : Call). (step b x).book) (sym e)
 
 -- a call that keeps the session keeps the tickets in hand
-pub purse_kept : {X Z : Type 0} (v : Vec X Z) (b k : Book) (c : Call) → sessions (step b c).book.slip ≡ sessions b.slip → k ≡ (step b c).book → Pursed b v → Pursed k v
-purse_kept v b k c s h p = (p.0 ∙ ap (λ (n : ℕ). 1 + n) (sym (ap (λ (q : Book). sessions q.slip) h ∙ s)), p.1)
+pub purse_kept : (p : Purse) (b k : Book) (c : Call) → in_session (step b c).book.slip ≡ in_session b.slip → k ≡ (step b c).book → Pursed b p → Pursed k p
+purse_kept p b k c s h q = q ∙ sym (ap (λ (x : Book). in_session x.slip) h ∙ s)
 
 -- Blank lists
 

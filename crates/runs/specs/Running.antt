@@ -1,16 +1,15 @@
 -- The law over a string of calls: the book that is kept from the arguments alone says what each call answers and lists.
-use Rattle.std.specs.Prelude.{◌≡◌, ℕ, ◌+◌, Bool, true, false, cond, List, [], ◌∷◌, length, take, replicate, Ok, Err, vec_items, Result}
+use Rattle.std.specs.Prelude.{◌≡◌, ℕ, ◌≤◌, Bool, true, false, cond, List, [], ◌∷◌, length, take, replicate, Ok, Err, count_by, vec_items, vec_capacity, Result}
 use mathlib.Core.List.{Memᴰ}
 use Rattle.rules.specs.Semantics.{LiteralSet, Mem, Overruling, WellFounded}
-use Rattle.racks.specs.Meaning.{Meaning}
 use Rattle.evaluator.specs.declared.answer.EvaluatorFault.{EvaluatorFault}
 use Rattle.evaluator.specs.Answers.{Listed}
-use Rattle.laying.specs.Laying.{ground}
+use Rattle.laying.specs.Laying.{Ground}
 use Rattle.kiosk.specs.declared.call.Call.{Call}
 use Rattle.kiosk.specs.declared.call.Call.TheVariants.{Begin, Lay, Withdraw, Open, Fact, End, Outcomes}
 use Rattle.kiosk.specs.Book.{Book, step}
 use Rattle.kiosk.specs.Standing.{book_of, start, shown}
-use Rattle.runs.specs.Purse.{Pursed}
+use Rattle.runs.specs.Purse.{Pursed, Stocked}
 use Rattle.runs.specs.declared.run.Answer.{Answer}
 use Rattle.runs.specs.declared.run.Answer.TheVariants.{Done, Listed as WithList}
 use Rattle.runs.specs.declared.run.Run.{Run}
@@ -19,8 +18,8 @@ use Rattle.runs.specs.declared.run.Start.{Start}
 -- The book
 
 -- at the set-up
-abbrev pub first : {R : Type 0} → (R → Meaning) → (R → ℕ) → (R → ℕ) → R → Book
-first m f p x = start (ground (m x) (f x) (p x))
+abbrev pub first : {R : Type 0} → (R → Ground) → R → Book
+first g x = start (g x)
 
 -- after a string of calls
 abbrev pub after : Book → List Call → Book
@@ -61,8 +60,7 @@ abbrev pub tally : Bool → ℕ
 tally b = cond b 1 0
 
 abbrev pub asked : List Call → ℕ
-asked [] = 0
-asked (c ∷ cs) = tally (asks c) + asked cs
+asked cs = count_by asks cs
 
 -- what a call answers where the book stands so: outcomes a listing into places that hold zero, and any other call what the book says
 abbrev pub Answers : (over : Overruling) (places : ℕ) → Book → Call → Answer → Type 0
@@ -81,14 +79,23 @@ pub data Runs (over : Overruling) (places : ℕ) : Book → List Call → List A
 
 -- Runs of a kiosk
 
+-- a run with no call made yet: the book at the set-up, room for the answers, and a blank list for each listing to come
+pub record Ready {R : Type 0} (g : R → Ground) (places : ℕ) (rack : R) (calls : List Call) (run : Run R) : Type 0 where
+  pub stands : book_of g run.kiosk ≡ first g rack
+  pub unanswered : vec_items run.answers ≡ []
+  pub room : length calls ≤ vec_capacity run.answers
+  pub purse : Pursed (book_of g run.kiosk) run.purse
+  pub blank : run.places ≡ places
+  pub stock : Stocked places (asked calls) run.lists
+
 -- the calls were answered as the book says, and the kiosk stands for the book after them;
 -- the tickets in hand are the reserve, and one more while a session is open
-pub record Performed {R : Type 0} (m : R → Meaning) (f p : R → ℕ) (over : Overruling) (places : ℕ) (rack : R) (calls : List Call) (run : Run R) : Type 0 where
-  pub answered : Runs over places (first m f p rack) calls (vec_items run.answers) (after (first m f p rack) calls)
-  pub stands : book_of m f p run.kiosk ≡ after (first m f p rack) calls
-  pub purse : Pursed (after (first m f p rack) calls) run.tickets
+pub record Performed {R : Type 0} (g : R → Ground) (over : Overruling) (places : ℕ) (rack : R) (calls : List Call) (run : Run R) : Type 0 where
+  pub answered : Runs over places (first g rack) calls (vec_items run.answers) (after (first g rack) calls)
+  pub stands : book_of g run.kiosk ≡ after (first g rack) calls
+  pub purse : Pursed (after (first g rack) calls) run.purse
 
 -- and then the list was filled from that book; or there was no memory, and all is as it was
-abbrev pub Replays : {R : Type 0} (m : R → Meaning) (f p : R → ℕ) (over : Overruling) (places : ℕ) → Start R → List Call → List ℕ → List ℕ → Result (Run R × Result ℕ EvaluatorFault) (Start R) → Type 0
-Replays m f p over places s calls old new (Ok k) = Performed m f p over places s.rack calls k.0 × Listing over (after (first m f p s.rack) calls) old new k.1
-Replays m f p over places s calls old new (Err e) = (e ≡ s) × (new ≡ old)
+abbrev pub Replays : {R : Type 0} (g : R → Ground) (over : Overruling) (places : ℕ) → Start R → List Call → List ℕ → List ℕ → Result (Run R × Result ℕ EvaluatorFault) (Start R) → Type 0
+Replays g over places s calls old new (Ok k) = Performed g over places s.rack calls k.0 × Listing over (after (first g s.rack) calls) old new k.1
+Replays g over places s calls old new (Err e) = (e ≡ s) × (new ≡ old)

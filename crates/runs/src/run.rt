@@ -17,12 +17,18 @@ pub struct Start<R: OpenRack> {
     pub reserve: Ticket,
 }
 
-// A kiosk with the answers that it gave so far and the tickets in hand: the reserve at the bottom, an open session's above it.
+// The tickets in hand: the reserve, and an open session's.
+pub struct Purse {
+    pub reserve: Ticket,
+    pub session: Option<Ticket>,
+}
+
+// A kiosk with the answers that it gave so far and the tickets in hand.
 // `lists` are blank, of `places` places each, for the listings to come.
 pub struct Run<R: OpenRack> {
     pub kiosk: Kiosk<R>,
     pub answers: Vec<Answer>,
-    pub tickets: Vec<Ticket>,
+    pub purse: Purse,
     pub places: usize,
     pub lists: Vec<Vec<u16>>,
 }

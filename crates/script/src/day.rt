@@ -21,8 +21,7 @@ pub fn play_script(heap: Global, script: &[u8]) -> Result<String, AllocError> {
         calls: Vec::new(heap),
     };
     let mut text = String::new(heap);
-    for (i, line) in script.split(|byte| *byte == b'\n').enumerate() {
-        let number = i.saturating_add(1);
+    for (number, line) in (1usize..).zip(script.split(|byte| *byte == b'\n')) {
         match read(line) {
             Ok(Line::Nothing) => (),
             Ok(asked) => {

@@ -10,10 +10,9 @@ use kiosk::ticket::Ticket;
 use laying::open_rack::OpenRack;
 use laying::pocket::PocketRack;
 use orders::position::Position;
-use racks::rack::Rack;
 use report::report::write_report;
 use runs::replay::replay;
-use runs::run::{Run, Start};
+use runs::run::{Purse, Run, Start};
 use std::alloc::{AllocError, Global};
 
 // Places of a list, and bytes of a report.
@@ -22,11 +21,11 @@ const PLACES: usize = 1024;
 const BYTES: usize = 32_768;
 
 // No kiosk was set up. Nothing but memory can be wanting there.
+#[derive(Drop)]
 struct NoKiosk;
 
 impl From<NoKiosk> for AllocError {
-    fn from(fault: NoKiosk) -> AllocError {
-        let NoKiosk = fault;
+    fn from(_: NoKiosk) -> AllocError {
         AllocError
     }
 }
@@ -76,29 +75,29 @@ pub fn report<R: OpenRack>(heap: Global, run: &Run<R>) -> Result<String, AllocEr
 }
 
 // Hands every ticket in: an open session's at its own kiosk, and the reserve where it came from.
-fn close<R: OpenRack + Drop>(run: Run<R>, home: Kiosk<PocketRack>)
-    requires purse { Pursed (book_of R.Rack.meaning R.OpenRack.floor R.OpenRack.places run.kiosk) run.tickets }
-    requires open { in_session (book_of ⟦<PocketRack as Rack>⟧.meaning ⟦<PocketRack as OpenRack>⟧.floor ⟦<PocketRack as OpenRack>⟧.places home).slip ≡ true }
+fn close<R: OpenRack + Drop, S: OpenRack + Drop>(run: Run<R>, home: Kiosk<S>)
+    requires purse { Pursed (book_of R.OpenRack.state run.kiosk) run.purse }
+    requires open { in_session (book_of S.OpenRack.state home).slip ≡ true }
 {
     let Run {
         kiosk,
         answers: _,
-        mut tickets,
+        purse: Purse { reserve, session },
         places: _,
         lists: _,
     } = run;
-    if tickets.len() > 1 {
-        shut(kiosk, tickets.take_last());
-    } else {
-        let _ = kiosk.into_rack();
+    match session {
+        Some(ticket) => shut(kiosk, ticket),
+        None => {
+            let _ = kiosk.into_rack();
+        }
     }
-    shut(home, tickets.take_last());
-    tickets.destroy_empty();
+    shut(home, reserve);
 }
 
 // Ends the session that is open here, and puts the kiosk away.
 fn shut<R: OpenRack + Drop>(mut kiosk: Kiosk<R>, ticket: Ticket)
-    requires { in_session (book_of R.Rack.meaning R.OpenRack.floor R.OpenRack.places kiosk).slip ≡ true }
+    requires { in_session (book_of R.OpenRack.state kiosk).slip ≡ true }
 {
     kiosk.end(ticket).unwrap();
     let _ = kiosk.into_rack();

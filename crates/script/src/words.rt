@@ -3,7 +3,7 @@ use evaluator::answer::{EvaluatorFault, Reading, Ruling};
 use kiosk::call::Call;
 use kiosk::fault::KioskFault;
 use laying::fault::RackFault;
-use rules::refusal::Layer;
+use rules::refusal::{Layer, Refusal};
 use runs::run::Answer;
 use std::alloc::{AllocError, Global};
 use std::fmt::{Display, Formatter, Result as Printed, Write};

@@ -1,7 +1,8 @@
-ghost use Rattle.std.specs.Prelude.{◌≡◌, [], IfErr, Some, MatchResult, OnOk};
-ghost use Rattle.laying.specs.Laying.{ground};
-ghost use Rattle.kiosk.specs.Book.{step, Does, bare, ended};
+ghost use Rattle.std.specs.Prelude.{◌≡◌, [], true, false, IfOk, IfErr, Some, None, MatchResult, OnOk, OnErr};
+ghost use Rattle.kiosk.specs.Book.{step, Does, bare, ended, in_session};
 ghost use Rattle.kiosk.specs.Standing.{book_of, start};
+ghost use Rattle.racks.specs.Meaning.{shaped};
+ghost use Rattle.kiosk.specs.declared.fault.KioskFault.TheVariants.{SessionOpen};
 ghost use Rattle.kiosk.specs.declared.call.Call.TheVariants.{Begin as BeginCall, Lay as LayCall, Withdraw as WithdrawCall, Open as OpenCall, Fact as FactCall, End as EndCall};
 
 use crate::fault::KioskFault;
@@ -11,28 +12,21 @@ use crate::ticket::{Returned, Ticket};
 use laying::open_rack::OpenRack;
 use racks::rack::Rack;
 use rules::record::Record;
-use rules::table::MOST_RULES;
+use rules::rule::Shape;
+use rules::table::{MOST_RULES, MOST_SHEETS};
 use std::alloc::Global;
 
-const MOST_SHEETS: u8 = 32;
-
-const MOST_FACTS: usize = 16;
-
 impl<R: OpenRack> Kiosk<R> {
-    // Sets a kiosk up on a rack, without a session. Where there is no memory for the slip, the rack comes back.
-    pub fn new(heap: Global, rack: R) -> Result<Kiosk<R>, R>
-        ensures { MatchResult result (λ k. book_of R.Rack.meaning R.OpenRack.floor R.OpenRack.places k ≡ start (ground (R.Rack.meaning rack) (R.OpenRack.floor rack) (R.OpenRack.places rack))) (λ e. e ≡ rack) }
+    // Sets a kiosk up on a rack, without a session. The slip needs no heap, so the rack never comes back;
+    // `heap` and the result's type stay for the callers that were written when it could.
+    pub fn new(_heap: Global, rack: R) -> Result<Kiosk<R>, R>
+        ensures { MatchResult result (λ k. book_of R.OpenRack.state k ≡ start (R.OpenRack.state rack)) (λ e. e ≡ rack) }
     {
-        let matters = rack.shape().matters;
-        match Vec::with_capacity(heap, MOST_FACTS) {
-            Ok(facts) => Ok(Kiosk {
-                rack,
-                matters,
-                session: false,
-                slip: Slip { facts },
-            }),
-            Err(_) => Err(rack),
-        }
+        Ok(Kiosk {
+            rack,
+            session: None,
+            slip: Slip::new(),
+        })
     }
 
     // Hands the rack back.
@@ -41,7 +35,6 @@ impl<R: OpenRack> Kiosk<R> {
     {
         let Kiosk {
             rack,
-            matters: _,
             session: _,
             slip: _,
         } = self;
@@ -50,61 +43,47 @@ impl<R: OpenRack> Kiosk<R> {
 
     // A new sheet on the rack below.
     pub fn begin(&mut self) -> Result<(), KioskFault>
-        ensures { Does (step (book_of R.Rack.meaning R.OpenRack.floor R.OpenRack.places self.old) BeginCall) result (book_of R.Rack.meaning R.OpenRack.floor R.OpenRack.places self.new) }
+        ensures { Does (step (book_of R.OpenRack.state self.old) BeginCall) result (book_of R.OpenRack.state self.new) }
     {
-        if self.seated(self.rack.shape()) {
-            return Err(KioskFault::SessionOpen);
-        }
-        self.session = false;
+        self.idle()?;
         self.rack.begin()?;
         Ok(())
     }
 
     // One rule more on the top sheet of the rack below.
     pub fn lay(&mut self, record: Record) -> Result<(), KioskFault>
-        ensures { Does (step (book_of R.Rack.meaning R.OpenRack.floor R.OpenRack.places self.old) (LayCall «record»)) result (book_of R.Rack.meaning R.OpenRack.floor R.OpenRack.places self.new) }
+        ensures { Does (step (book_of R.OpenRack.state self.old) (LayCall «record»)) result (book_of R.OpenRack.state self.new) }
     {
-        if self.seated(self.rack.shape()) {
-            return Err(KioskFault::SessionOpen);
-        }
-        self.session = false;
+        self.idle()?;
         self.rack.lay(record)?;
         Ok(())
     }
 
     // The top sheet of the rack below goes.
     pub fn withdraw(&mut self) -> Result<(), KioskFault>
-        ensures { Does (step (book_of R.Rack.meaning R.OpenRack.floor R.OpenRack.places self.old) WithdrawCall) result (book_of R.Rack.meaning R.OpenRack.floor R.OpenRack.places self.new) }
+        ensures { Does (step (book_of R.OpenRack.state self.old) WithdrawCall) result (book_of R.OpenRack.state self.new) }
     {
-        if self.seated(self.rack.shape()) {
-            return Err(KioskFault::SessionOpen);
-        }
-        self.session = false;
+        self.idle()?;
         self.rack.withdraw()?;
         Ok(())
     }
 
     // Opens a session with an empty slip, and hands out its ticket.
     pub fn open(&mut self) -> Result<Ticket, KioskFault>
-        ensures book { Does (step (book_of R.Rack.meaning R.OpenRack.floor R.OpenRack.places self.old) OpenCall) (bare result) (book_of R.Rack.meaning R.OpenRack.floor R.OpenRack.places self.new) }
-        ensures slip { OnOk result ((book_of R.Rack.meaning R.OpenRack.floor R.OpenRack.places self.new).slip ≡ Some []) }
+        ensures book { Does (step (book_of R.OpenRack.state self.old) OpenCall) (bare result) (book_of R.OpenRack.state self.new) }
+        ensures slip { OnOk result ((book_of R.OpenRack.state self.new).slip ≡ Some []) }
     {
-        let below = self.rack.shape();
-        if self.seated(below) {
-            return Err(KioskFault::SessionOpen);
-        }
-        if below.sheets >= MOST_SHEETS {
+        let below = self.idle()?;
+        if below.sheets as usize >= MOST_SHEETS {
             return Err(KioskFault::NoRoom);
         }
-        self.slip.clear();
-        self.matters = below.matters;
-        self.session = true;
+        self.session = Some(below.matters);
         Ok(Ticket::issue())
     }
 
     // Writes a fact on the slip. A second fact on a matter changes the sign of the first where it lies.
     pub fn fact(&mut self, matter: u8, sign: u8) -> Result<(), KioskFault>
-        ensures { Does (step (book_of R.Rack.meaning R.OpenRack.floor R.OpenRack.places self.old) (FactCall matter sign)) result (book_of R.Rack.meaning R.OpenRack.floor R.OpenRack.places self.new) }
+        ensures { Does (step (book_of R.OpenRack.state self.old) (FactCall matter sign)) result (book_of R.OpenRack.state self.new) }
     {
         let below = self.rack.shape();
         if !self.seated(below) {
@@ -116,9 +95,9 @@ impl<R: OpenRack> Kiosk<R> {
             yes: 0,
             no: 0,
         };
-        let Some(rule) = record.check(self.matters, below.sheets) else {
-            return Err(KioskFault::BadFact);
-        };
+        let rule = record
+            .check(below.matters, below.sheets)
+            .ok_or(KioskFault::BadFact)?;
         if let Some(i) = self.slip.find(matter) {
             self.slip.change(i, rule.sign);
             return Ok(());
@@ -135,7 +114,7 @@ impl<R: OpenRack> Kiosk<R> {
 
     // Ends the session: the slip goes, and the ticket with it. Where no session is open here, the ticket comes back.
     pub fn end(&mut self, ticket: Ticket) -> Result<(), Returned>
-        ensures book { Does (step (book_of R.Rack.meaning R.OpenRack.floor R.OpenRack.places self.old) EndCall) (ended result) (book_of R.Rack.meaning R.OpenRack.floor R.OpenRack.places self.new) }
+        ensures book { Does (step (book_of R.OpenRack.state self.old) EndCall) (ended result) (book_of R.OpenRack.state self.new) }
         ensures cleared { OnOk result (self.new.slip.facts.items ≡ []) }
         ensures back { IfErr result (λ e. e.ticket ≡ ticket) }
     {
@@ -146,8 +125,36 @@ impl<R: OpenRack> Kiosk<R> {
             });
         }
         ticket.spend();
-        self.slip.clear();
-        self.session = false;
+        self.close();
         Ok(())
+    }
+
+    // The shape of the rack, where no session is open on it. A slip that does not fit the rack counts as none, and goes.
+    fn idle(&mut self) -> Result<Shape, KioskFault>
+        ensures free { OnOk result (in_session (book_of R.OpenRack.state self.old).slip ≡ false) }
+        ensures shape { IfOk result (λ s. s ≡ shaped (R.OpenRack.state self.old.rack).meaning) }
+        ensures closed { OnOk result (self.new.session ≡ None) }
+        ensures empty { OnOk result (self.new.slip.facts.items ≡ []) }
+        ensures rack { self.new.rack ≡ self.old.rack }
+        ensures busy { OnErr result (in_session (book_of R.OpenRack.state self.old).slip ≡ true) }
+        ensures fault { IfErr result (λ e. e ≡ SessionOpen) }
+        ensures kept { OnErr result (self.new ≡ self.old) }
+    {
+        let below = self.rack.shape();
+        if self.seated(below) {
+            return Err(KioskFault::SessionOpen);
+        }
+        self.close();
+        Ok(below)
+    }
+
+    // Leaves no session and an empty slip.
+    fn close(&mut self)
+        ensures session { self.new.session ≡ None }
+        ensures slip { self.new.slip.facts.items ≡ [] }
+        ensures rack { self.new.rack ≡ self.old.rack }
+    {
+        self.session = None;
+        self.slip.clear();
     }
 }

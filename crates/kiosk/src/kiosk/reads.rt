@@ -6,24 +6,21 @@ use crate::kiosk::Kiosk;
 use laying::open_rack::OpenRack;
 use racks::rack::Rack;
 use rules::rule::{Rule, Shape};
-use rules::table::{MOST_RULES, Table};
-
-const MOST_SHEETS: u8 = 32;
+use rules::table::{MOST_RULES, MOST_SHEETS, Table};
 
 impl<R: OpenRack> Kiosk<R> {
     // Whether a session is open over a rack of this shape. A slip that does not fit it counts as none.
     pub(super) fn seated(&self, below: Shape) -> bool
-        ensures { result ≡ seated below self.now.matters self.now.session self.now.slip.facts.items }
+        ensures { result ≡ seated below self.now.session self.now.slip.facts.items }
     {
-        self.session
-            && below.matters == self.matters
-            && below.sheets < MOST_SHEETS
+        self.session == Some(below.matters)
+            && (below.sheets as usize) < MOST_SHEETS
             && below.rules as usize + self.slip.len() <= MOST_RULES
     }
 
     // The kiosk's shape over a rack of this shape.
     fn shape_over(&self, below: Shape) -> Shape
-        ensures { result ≡ topped_shape (seated below self.now.matters self.now.session self.now.slip.facts.items) below (length self.now.slip.facts.items) }
+        ensures { result ≡ topped_shape (seated below self.now.session self.now.slip.facts.items) below (length self.now.slip.facts.items) }
     {
         if !self.seated(below) {
             return below;
@@ -54,10 +51,8 @@ impl<R: OpenRack> Rack for Kiosk<R> {
         if !self.seated(below) {
             return None;
         }
-        match self.slip.fact((place - below.rules) as usize) {
-            Some(fact) => Some(fact.on_sheet(below.sheets)),
-            None => None,
-        }
+        let fact = self.slip.fact((place - below.rules) as usize)?;
+        Some(fact.on_sheet(below.sheets))
     }
 
     fn read(&self) -> Table {

@@ -1,5 +1,5 @@
-ghost use Rattle.std.specs.Prelude.{◌≡◌, ◌<◌, ◌≤◌};
-ghost use Rattle.laying.specs.Laying.{under};
+ghost use Rattle.std.specs.Prelude.{◌≡◌, ◌<◌, ◌≤◌, refl};
+ghost use Rattle.laying.specs.Laying.{ground, under};
 ghost use Rattle.laying.specs.Pocketing.{pocket_meaning, bare, SetsUp};
 ghost use Rattle.racks.specs.Tables.{held_few};
 ghost use Rattle.laying.specs.Laid.{grounded_low};
@@ -78,9 +78,9 @@ impl Rack for PocketRack {
 }
 
 impl OpenRack for PocketRack {
-    ghost floor = { λ _. 0 };
+    ghost state = { λ x. ground (pocket_meaning x) 0 64 };
 
-    ghost places = { λ _. 64 };
+    ghost same_meaning = { λ x. refl };
 
     ghost grounded = { λ x. grounded_low (pocket_meaning x) x.housed };
 

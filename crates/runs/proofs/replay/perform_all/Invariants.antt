@@ -7,9 +7,12 @@ use Rattle.runs.proofs.replay.perform_all.Given as goal
 
 abbrev pub invariant-loop-call : goal.invariant-loop-call
 invariant-loop-call g l =
-    (vec_len l.run.answers ≡ l.call-index)
-    × (length l.calls ≤ vec_capacity l.run.answers)
-    × Pursed (book_of g.R.Rack.meaning g.R.OpenRack.floor g.R.OpenRack.places l.run.kiosk) l.run.tickets
-    × Going (g.O.Order.over l.order) l.places (book_of g.R.Rack.meaning g.R.OpenRack.floor g.R.OpenRack.places l.initial.run.kiosk) (book_of g.R.Rack.meaning g.R.OpenRack.floor g.R.OpenRack.places l.run.kiosk) l.calls l.call-index (vec_items l.run.answers)
-    × (l.run.places ≡ l.places)
-    × Stocked l.places (asked (drop l.call-index l.calls)) l.run.lists
+    let st = g.R.OpenRack.state in
+    record {
+      counted : vec_len l.run.answers ≡ l.call-index;
+      room : length l.calls ≤ vec_capacity l.run.answers;
+      purse : Pursed (book_of st l.run.kiosk) l.run.purse;
+      going : Going (g.O.Order.over l.order) l.places (book_of st l.initial.run.kiosk) (book_of st l.run.kiosk) l.calls l.call-index (vec_items l.run.answers);
+      blank : l.run.places ≡ l.places;
+      stock : Stocked l.places (asked (drop l.call-index l.calls)) l.run.lists;
+    }
