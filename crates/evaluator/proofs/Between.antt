@@ -1,7 +1,7 @@
 -- The sets that a finder tries: the outcomes are among them.
-use Rattle.std.proofs.Common.{◌≡◌, ℕ, ◌-◌, ◌^◌, ◌<◌, ◌≤◌, cond, eqb, ◌⊎◌, List, length, sym, refl, ap, ◌∙◌, subst, inl, inr, ⊎_elim, arith, pow_mono}
+use Rattle.std.proofs.Common.{◌≡◌, ℕ, ◌-◌, ◌^◌, ◌<◌, ◌≤◌, cond, eqb, ◌⊎◌, List, sym, refl, ap, ◌∙◌, subst, inl, inr, ⊎_elim, arith}
 use lib.Bits.{bit_and, bit_or, or_lt, or_disjoint}
-use lib.Count.{ones, ones-le}
+use lib.Count.{ones}
 use Rattle.std.proofs.lemmas.Bool.{cond_both, eqb-false}
 use Rattle.rules.specs.declared.rule.Rule.{Rule}
 use Rattle.rules.specs.declared.rule.Sign.TheVariants.{Yes}
@@ -9,9 +9,11 @@ use Rattle.rules.specs.Held.{held}
 use Rattle.rules.specs.Semantics.{Mem, LiteralSet, Overruling, Total, Formed, Outcome, WellFounded}
 use Rattle.rules.proofs.Bitwise.{mem_cases, mem_and, mem_and_left, mem_and_right, mem_or_left, mem_or_right, mem_or_cases, mem_below, rest_mem, rest_not, same_members, below_from_members, not_in_zero}
 use Rattle.rules.proofs.Theory.{outcome_between, step_bounded}
+use Rattle.racks.specs.Meaning.{Meaning}
+use Rattle.evaluator.proofs.Readiness.{read_as}
 use Rattle.evaluator.specs.declared.finder.Finder.{Finder}
 use Rattle.evaluator.specs.Finding.{From}
-use Rattle.steps.specs.Parts.{SetOf, Ready, Tabled}
+use Rattle.steps.specs.Parts.{SetOf, Tabled}
 use Rattle.steps.specs.Subsets.{part, Undecided}
 use Rattle.steps.proofs.SetOfs.{empty_zero}
 use Rattle.steps.proofs.Subsets.{part_within, part_rising, part_onto}
@@ -75,31 +77,29 @@ module _ {P : List Rule} {over : Overruling} {n : ℕ} {X : LiteralSet} {u : ℕ
       f (empty_zero _ (λ a m. b.1 a (mem_and_right a X.0 X.1 m) (b.0 a (mem_and_left a X.0 X.1 m))))
 
 -- a finder that begins has to give all outcomes
-pub from_start : {over : Overruling} (f : Finder) (others : ℕ) → Total over → Ready f.matters (held f.table) → WellFounded (held f.table) over f.matters (f.yes, others)
-    → Tabled over f.overrulers → length f.overrulers ≡ 32 → SetOf f.undecided (Undecided f.matters (f.yes, others)) → f.next ≡ 0
-    → f.end ≡ cond (eqb (bit_and f.yes others) 0) (2 ^ ones f.undecided) 0 → From (held f.table) over f.matters f 0
-from_start {over} f others total ready model tabled whole undecided first last =
-    let few = ready.few_matters in
-    let P = held f.table in
-    let n = f.matters in
-    let u = f.undecided in
-    let ends : (f.end ≡ 2 ^ ones u) ⊎ ((f.end ≡ 0) × (bit_and f.yes others ≡ 0 → ⊥)) =
-    subst (λ (x : ℕ). (x ≡ 2 ^ ones u) ⊎ ((x ≡ 0) × (bit_and f.yes others ≡ 0 → ⊥))) (sym last)
-    (cond_both (eqb (bit_and f.yes others) 0) (2 ^ ones u) 0 (λ (x : ℕ). (x ≡ 2 ^ ones u) ⊎ ((x ≡ 0) × (bit_and f.yes others ≡ 0 → ⊥))) (λ _. inl refl) (λ e. inr (refl, eqb-false _ _ e))) in
+pub from_start : {over : Overruling} (f : Finder) (others : ℕ) → Total over → WellFounded (held f.candidates.table) over f.candidates.matters (f.candidates.yes, others)
+    → Tabled over f.candidates.overrulers → SetOf f.candidates.undecided (Undecided f.candidates.matters (f.candidates.yes, others)) → f.untried.start ≡ 0
+    → f.untried.end ≡ cond (eqb (bit_and f.candidates.yes others) 0) (2 ^ ones f.candidates.undecided) 0 → From (held f.candidates.table) over f.candidates.matters f 0
+from_start {over} f others total model tabled undecided first last =
+    let c = f.candidates in
+    let formed = c.ready.formed in
+    let few = c.ready.few_matters in
+    let u = c.undecided in
+    let ends : (f.untried.end ≡ 2 ^ ones u) ⊎ ((f.untried.end ≡ 0) × (bit_and c.yes others ≡ 0 → ⊥)) =
+    subst (λ (x : ℕ). (x ≡ 2 ^ ones u) ⊎ ((x ≡ 0) × (bit_and c.yes others ≡ 0 → ⊥))) (sym last)
+    (cond_both (eqb (bit_and c.yes others) 0) (2 ^ ones u) 0 (λ (x : ℕ). (x ≡ 2 ^ ones u) ⊎ ((x ≡ 0) × (bit_and c.yes others ≡ 0 → ⊥))) (λ _. inl refl) (λ e. inr (refl, eqb-false _ _ e))) in
     record {
-      works = record {
-        ready = ready;
-        whole = whole;
-        few = ⊎_elim (λ e. let p : 2 ^ ones u ≤ 2 ^ 16 = pow_mono (ones-le 16 u (small total ready.formed few model undecided)) in omega arith) (λ e. let z = e.0 in omega arith) ends;
-        below = λ t _. tried_below total ready.formed few model undecided t;
-      };
       rules_are = refl;
       matters_are = refl;
       tabled = tabled;
-      rising = λ t v l h. ⊎_elim (λ e. tried_rising total ready.formed few model undecided t v l (omega arith)) (λ e. let z = e.0 in absurd (omega arith)) ends;
+      rising = λ t v l h. ⊎_elim (λ e. tried_rising total formed few model undecided t v l (omega arith)) (λ e. let z = e.0 in absurd (omega arith)) ends;
       low = λ t l h. omega arith;
       all = λ M o l. ⊎_elim
-          (λ e. let w = tried_outcome total ready.formed few model undecided M o in let h = w.1 in (w.0, omega arith, omega arith, w.2))
-          (λ e. absurd (both_signs total ready.formed few model undecided e.1 M o))
+          (λ e. let w = tried_outcome total formed few model undecided M o in let h = w.1 in (w.0, omega arith, omega arith, w.2))
+          (λ e. absurd (both_signs total formed few model undecided e.1 M o))
           ends;
     }
+
+-- so has one that begins with what was read of a rack
+pub from_read : {over : Overruling} {f : Finder} (m : Meaning) → f.candidates.matters ≡ m.matters → held f.candidates.table ≡ m.rules → From (held f.candidates.table) over f.candidates.matters f 0 → From m.rules over m.matters f 0
+from_read {over} {f} m e r = read_as (λ P n. From P over n f 0) m e refl r

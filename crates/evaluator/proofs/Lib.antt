@@ -1,5 +1,7 @@
 pub mod Readiness
 pub mod Between
+pub mod Numbering
+pub mod Tries
 pub mod Findings
 pub mod Surveyed
 pub mod Lawful

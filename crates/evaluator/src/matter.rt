@@ -1,13 +1,15 @@
-ghost use Rattle.std.specs.Prelude.{◌≡◌, ◌<◌};
-ghost use Rattle.evaluator.specs.Matters.{Reads, ReadingAnswered, RulingAnswered, sum};
+ghost use Rattle.std.specs.Prelude.{◌≡◌, ◌<◌, ◌||◌, Bool, not};
+ghost use Rattle.rules.specs.Refusals.{Judged};
+ghost use Rattle.evaluator.specs.Faults.{fault_number};
+ghost use Rattle.evaluator.specs.Matters.{Reads, ReadingAnswered, RulingAnswered, matter_table, sum};
 
 use crate::answer::{EvaluatorFault, Reading, Ruling};
 use crate::finder::Finder;
 use crate::model::well_founded;
 use orders::order::Order;
 use racks::rack::Rack;
-use rules::matters::has_matter;
 use rules::rule::LiteralSet;
+use rules::sets::has;
 
 // How the well-founded model reads a matter.
 pub fn reading<R: Rack, O: Order>(
@@ -17,9 +19,7 @@ pub fn reading<R: Rack, O: Order>(
 ) -> Result<Reading, EvaluatorFault>
     ensures { ReadingAnswered (R.Rack.meaning rack.now).rules (O.Order.over order.now) (R.Rack.meaning rack.now).matters matter result }
 {
-    if matter >= rack.shape().matters {
-        return Err(EvaluatorFault::NoMatter);
-    }
+    known(rack, matter)?;
     Ok(read(well_founded(rack, order).literals, matter))
 }
 
@@ -27,25 +27,27 @@ pub fn reading<R: Rack, O: Order>(
 pub fn ruling<R: Rack, O: Order>(rack: &R, order: &O, matter: u8) -> Result<Ruling, EvaluatorFault>
     ensures { RulingAnswered (R.Rack.meaning rack.now).rules (O.Order.over order.now) (R.Rack.meaning rack.now).matters matter result }
 {
-    if matter >= rack.shape().matters {
-        return Err(EvaluatorFault::NoMatter);
+    known(rack, matter)?;
+    Ok(Finder::new(rack, order).fold(Ruling::NoOutcome, |ruling, m| {
+        ruling.after(has(m.into(), matter))
+    }))
+}
+
+// Refuses a matter that is none of the rack's.
+fn known<R: Rack>(rack: &R, matter: u8) -> Result<(), EvaluatorFault>
+    ensures { Judged fault_number (matter_table (R.Rack.meaning rack.now).matters matter) (λ _. Unit {0}) (Unit {0}) result }
+{
+    if matter < rack.shape().matters {
+        Ok(())
+    } else {
+        Err(EvaluatorFault::NoMatter)
     }
-    let mut finder = Finder::new(rack, order);
-    let mut with = false;
-    let mut without = false;
-    while let Some(m) = finder.next() {
-        let has = has_matter(m, matter);
-        with |= has;
-        without |= !has;
-    }
-    Ok(summed(with, without))
 }
 
 fn read(x: LiteralSet, matter: u8) -> Reading
-    requires { matter < 16 }
     ensures { Reads x matter result }
 {
-    match (has_matter(x.0, matter), has_matter(x.1, matter)) {
+    match (has(x.0.into(), matter), has(x.1.into(), matter)) {
         (false, false) => Reading::Undefined,
         (true, false) => Reading::True,
         (false, true) => Reading::False,
@@ -53,14 +55,15 @@ fn read(x: LiteralSet, matter: u8) -> Reading
     }
 }
 
-// By whether some outcome has the matter, and whether some lacks it.
-fn summed(with: bool, without: bool) -> Ruling
-    ensures { result ≡ sum with without }
-{
-    match (with, without) {
-        (true, false) => Ruling::Always,
-        (false, true) => Ruling::Never,
-        (true, true) => Ruling::Varies,
-        (false, false) => Ruling::NoOutcome,
+impl Ruling {
+    // The ruling when one more outcome is seen, by whether it has the matter.
+    fn after(self, has: bool) -> Ruling
+        ensures { (with without : Bool) → self ≡ sum with without → result ≡ sum (with || has) (without || not has) }
+    {
+        match (self, has) {
+            (Ruling::NoOutcome | Ruling::Always, true) => Ruling::Always,
+            (Ruling::NoOutcome | Ruling::Never, false) => Ruling::Never,
+            _ => Ruling::Varies,
+        }
     }
 }

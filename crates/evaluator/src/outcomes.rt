@@ -13,9 +13,9 @@ pub fn outcomes<R: Rack, O: Order>(
 ) -> Result<usize, EvaluatorFault>
     ensures { Listed (R.Rack.meaning rack.now).rules (O.Order.over order.now) (R.Rack.meaning rack.now).matters list.old list.new result }
 {
-    let mut finder = Finder::new(rack, order);
     let mut count = 0;
-    while let Some(m) = finder.next() {
+    for m in Finder::new(rack, order) {
+        // Not by `get_mut`: once its borrow is over, a proof knows no element of the list.
         if count == list.len() {
             return Err(EvaluatorFault::TooManyOutcomes);
         }

@@ -5,7 +5,7 @@ use rules::refusal::{Layer, Refusal};
 
 #[derive(Clone, Copy, PartialEq, Eq, Debug)]
 pub enum OrderFault {
-    TooManyGrades,
+    TooManyGrades = 15,
 }
 
 impl Refusal for OrderFault {
@@ -14,9 +14,7 @@ impl Refusal for OrderFault {
     ghost layered = { λ _. OrderLayer };
 
     fn number(self) -> u8 {
-        match self {
-            OrderFault::TooManyGrades => 15,
-        }
+        self as u8
     }
 
     fn layer(self) -> Layer {

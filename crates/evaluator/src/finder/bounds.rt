@@ -2,8 +2,8 @@ ghost use Rattle.std.specs.Prelude.{◌≡◌, ◌-◌, ◌^◌, ◌<◌, ◌≤
 ghost use Rattle.steps.specs.Parts.{SetOf};
 ghost use Rattle.steps.specs.Subsets.{part, Undecided};
 
-use rules::matters::has_matter;
 use rules::rule::LiteralSet;
+use rules::sets::has;
 use steps::bits::with_matter;
 
 // The matters of which the model holds neither sign.
@@ -29,13 +29,10 @@ pub fn parts(model: LiteralSet, set: u16) -> u32
 pub fn numbered(set: u16, number: u32) -> u16
     ensures { result ≡ part 16 set number }
 {
+    let members = (0..16).filter(|a| has(set.into(), *a));
     let mut chosen = 0;
-    let mut place = 0u8;
-    for a in 0..16 {
-        if has_matter(set, a) {
-            chosen = with_matter(chosen, a, (number >> place) % 2 == 1);
-            place += 1;
-        }
+    for (place, a) in members.enumerate() {
+        chosen = with_matter(chosen, a, has(number.into(), place as u8));
     }
     chosen
 }

@@ -1,17 +1,14 @@
-ghost use Rattle.std.specs.Prelude.{◌≡◌, ◌-◌, ◌^◌, ◌<◌, true, is_some, Decides};
-ghost use Rattle.rules.specs.Held.{held};
-ghost use Rattle.rules.specs.Semantics.{Overruling, Outcome};
-ghost use Rattle.steps.specs.Parts.{Tabled};
-ghost use Rattle.evaluator.specs.Finding.{candidate, From, Works, Hands};
+ghost use Rattle.std.specs.Prelude.{◌-◌};
+ghost use Rattle.std.specs.Iterator.{at_most};
+ghost use Rattle.evaluator.specs.Finding.{From, Hands};
 
 use crate::finder::Finder;
-use crate::finder::bounds::{all_matters, numbered, parts, undecided};
+use crate::finder::bounds::{parts, undecided};
+use crate::finder::candidates::Candidates;
 use orders::order::Order;
 use racks::rack::Rack;
-use steps::closure::same;
 use steps::model::settle;
 use steps::overrulers::Overrulers;
-use steps::step::step;
 
 impl Finder {
     // Finds the outcomes that the rack's sheets allow under the order.
@@ -23,50 +20,30 @@ impl Finder {
         let overrulers = Overrulers::of(order);
         let model = settle(table.as_slice(), matters, &overrulers).literals;
         let undecided = undecided(matters, model);
-        let overrulers = overrulers.broad;
-        let end = parts(model, undecided);
-        Finder {
+        let candidates = Candidates {
             table,
             matters,
-            overrulers,
+            overrulers: overrulers.broad,
             yes: model.0,
             undecided,
-            next: 0,
-            end,
+        };
+        Finder {
+            candidates,
+            untried: 0..parts(model, undecided),
         }
     }
+}
+
+impl Iterator for Finder {
+    type Item = u16;
+
+    ghost next_gives = { Hands };
+
+    ghost remaining = { λ f. at_most (f.untried.end - f.untried.start) };
 
     // The lowest outcome that was not given yet.
-    pub fn next(&mut self) -> Option<u16>
-        requires { Works self.old }
-        ensures hands { Hands self.old self.new result }
-        ensures falls { is_some result ≡ true → self.new.end - self.new.next < self.old.end - self.old.next }
-    {
-        while self.next < self.end {
-            let m = self.candidate(self.next);
-            let found = self.is_outcome(m);
-            self.next += 1;
-            if found {
-                return Some(m);
-            }
-        }
-        None
-    }
-
-    fn candidate(&self, number: u32) -> u16
-        ensures { result ≡ candidate self.now number }
-    {
-        self.yes | numbered(self.undecided, number)
-    }
-
-    fn is_outcome(&self, m: u16) -> bool
-        requires { (Works self.now) × (m < 2 ^ self.now.matters) }
-        ensures { (over : Overruling) → Tabled over self.now.overrulers → Decides result (Outcome (held self.now.table) over self.now.matters m) }
-    {
-        let x = (m, all_matters(self.matters) - m);
-        same(
-            step(self.table.as_slice(), self.matters, &self.overrulers, x),
-            x,
-        )
+    fn next(&mut self) -> Option<u16> {
+        self.untried
+            .find_map(|number| self.candidates.outcome(number))
     }
 }

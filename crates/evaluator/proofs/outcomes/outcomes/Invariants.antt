@@ -1,4 +1,4 @@
-use Rattle.std.proofs.Common.{ℕ, ◌-◌, length}
+use Rattle.std.proofs.Common.{ℕ}
 use Rattle.rules.proofs.Listing.{Found}
 use Rattle.evaluator.specs.Finding.{From}
 use Rattle.evaluator.proofs.outcomes.outcomes.Given as goal
@@ -7,7 +7,8 @@ abbrev pub invariant-loop-m : goal.invariant-loop-m
 invariant-loop-m g l =
     let m = g.R.Rack.meaning l.rack in
     let over = g.O.Order.over l.order in
-    (p : ℕ) × From m.rules over m.matters l.finder p × Found m.rules over m.matters p l.count l.initial.list l.list
-
-abbrev pub decreases-loop-m : goal.decreases-loop-m
-decreases-loop-m g l = length l.list - l.count
+    record {
+      below : ℕ;
+      from : From m.rules over m.matters l.m-iterator below;
+      found : Found m.rules over m.matters below l.count l.initial.list l.list;
+    }

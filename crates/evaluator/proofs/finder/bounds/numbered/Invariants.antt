@@ -1,9 +1,7 @@
 use Rattle.std.proofs.Common.{◌≡◌}
-use Rattle.rules.specs.Semantics.{Mem}
-use Rattle.steps.specs.Parts.{SetOf}
-use Rattle.steps.specs.Subsets.{part, rank}
-use Rattle.steps.proofs.SetOfs.{First}
+use Rattle.std.specs.List.{fold}
+use Rattle.evaluator.proofs.Numbering.{put}
 use Rattle.evaluator.proofs.finder.bounds.numbered.Given as goal
 
-abbrev pub invariant-loop-a : goal.invariant-loop-a
-invariant-loop-a l = (l.place ≡ rank l.set l.a) × SetOf l.chosen (First l.a (λ a. Mem a (part 16 l.set l.number)))
+abbrev pub invariant-loop-place : goal.invariant-loop-place
+invariant-loop-place l = l.chosen ≡ fold (put l.number) 0 l.yielded

@@ -1,11 +1,7 @@
-use Rattle.std.proofs.Common.{length, ap, ◌∙◌, rules}
+use Rattle.std.proofs.Common.{length, ap, ◌∙◌}
 use Rattle.std.proofs.lemmas.List.{take_at}
-use Rattle.std.proofs.lemmas.Slice.{overwrites}
 use Rattle.orders.specs.Grading.{graded}
 use Rattle.orders.proofs.grades.Grades.set.Goals as goal
-
-pub invariant_of-self : goal.invariant_of-self
-invariant_of-self c = search (rules, overwrites)
 
 pub returns : goal.returns
 unfolding graded
