@@ -6,6 +6,7 @@ use crate::report::write_report;
 use crate::text::{put_byte, put_decimal};
 use orders::position::Position;
 use racks::file::FileRack;
+use rules::refusal::Refusal;
 
 // How much of its input kiosk-list looks at, how many outcomes it can list, and how much it can print.
 pub const INPUT: usize = 2048;
