@@ -3,8 +3,10 @@ use crate::play::{last_answer, play, report};
 use crate::words::{Said, told};
 use evaluator::matter::{reading, ruling};
 use kiosk::call::Call;
+use kiosk::fault::KioskFault;
 use laying::pocket::PocketRack;
 use orders::position::Position;
+use runs::run::Run;
 use std::alloc::{AllocError, Global};
 
 // A kiosk's day so far: the pocket rack that it was last set up on, and the calls since.
@@ -43,16 +45,27 @@ impl Day {
             Line::SetUp(matters) => self.set_up(heap, matters),
             Line::Make(call) => {
                 self.calls.push(call)?;
-                play(heap, self.rack, &self.calls, |run| last_answer(heap, run))
+                self.ask(heap, |run| last_answer(heap, run))
             }
-            Line::Report => play(heap, self.rack, &self.calls, |run| report(heap, run)),
-            Line::Reading(matter) => play(heap, self.rack, &self.calls, |run| {
+            Line::Report => self.ask(heap, |run| report(heap, run)),
+            Line::Reading(matter) => self.ask(heap, |run| {
                 told(heap, reading(&run.kiosk, &Position, matter))
             }),
-            Line::Ruling(matter) => play(heap, self.rack, &self.calls, |run| {
+            Line::Ruling(matter) => self.ask(heap, |run| {
                 told(heap, ruling(&run.kiosk, &Position, matter))
             }),
         }
+    }
+
+    // Plays the day again, and says of the run what is wanted.
+    fn ask<F: FnOnce(&Run<PocketRack>) -> Result<String, AllocError>>(
+        &self,
+        heap: Global,
+        say: F,
+    ) -> Result<String, AllocError>
+        requires { F.IsAlwaysCallable say }
+    {
+        play(heap, self.rack, &self.calls, say)
     }
 
     // A new kiosk on an empty rack; a refusal keeps the old one.
@@ -61,6 +74,6 @@ impl Day {
         if done.is_ok() {
             self.calls.clear();
         }
-        told(heap, done)
+        told(heap, done.map_err(KioskFault::from))
     }
 }

@@ -1,20 +1,18 @@
 use crate::line::Line;
-use evaluator::answer::{EvaluatorFault, Reading, Ruling};
+use evaluator::answer::{Reading, Ruling};
 use kiosk::call::Call;
-use kiosk::fault::KioskFault;
-use laying::fault::RackFault;
-use rules::refusal::{Layer, Refusal};
+use rules::refusal::Refusal;
 use runs::run::Answer;
 use std::alloc::{AllocError, Global};
-use std::fmt::{Display, Formatter, Result as Printed, Write};
+use std::fmt;
 
 // A value in the words of a script.
 #[derive(Drop)]
 pub struct Said<T>(pub T);
 
 // What a line asks for, by the word that it begins with.
-impl Display for Said<Line> {
-    fn fmt<W: Write>(&self, f: &mut Formatter<W>) -> Printed {
+impl fmt::Display for Said<Line> {
+    fn fmt<W: fmt::Write>(&self, f: &mut fmt::Formatter<W>) -> fmt::Result {
         f.write_str(match self.0 {
             Line::Nothing => "",
             Line::SetUp(_) => "set up",
@@ -33,15 +31,15 @@ impl Display for Said<Line> {
 }
 
 // A call that answers no more than that it was made.
-impl Display for Said<()> {
-    fn fmt<W: Write>(&self, f: &mut Formatter<W>) -> Printed {
+impl fmt::Display for Said<()> {
+    fn fmt<W: fmt::Write>(&self, f: &mut fmt::Formatter<W>) -> fmt::Result {
         f.write_str("done")
     }
 }
 
 // How many outcomes there are, and each as a number.
-impl Display for Said<&[u16]> {
-    fn fmt<W: Write>(&self, f: &mut Formatter<W>) -> Printed {
+impl fmt::Display for Said<&[u16]> {
+    fn fmt<W: fmt::Write>(&self, f: &mut fmt::Formatter<W>) -> fmt::Result {
         let count = self.0.len();
         if count == 0 {
             return f.write_str("none");
@@ -54,81 +52,22 @@ impl Display for Said<&[u16]> {
     }
 }
 
-impl Display for Said<Reading> {
-    fn fmt<W: Write>(&self, f: &mut Formatter<W>) -> Printed {
-        let number = self.0.number();
-        let word = match self.0 {
-            Reading::Undefined => "undefined",
-            Reading::True => "true",
-            Reading::False => "false",
-            Reading::Contradictory => "both",
-        };
-        write!(f, "{number}, {word}")
+impl fmt::Display for Said<Reading> {
+    fn fmt<W: fmt::Write>(&self, f: &mut fmt::Formatter<W>) -> fmt::Result {
+        write!(f, "{}, {}", self.0.number(), self.0)
     }
 }
 
-impl Display for Said<Ruling> {
-    fn fmt<W: Write>(&self, f: &mut Formatter<W>) -> Printed {
-        let number = self.0.number();
-        let words = match self.0 {
-            Ruling::Always => "in every outcome",
-            Ruling::Never => "in no outcome",
-            Ruling::Varies => "in some outcomes",
-            Ruling::NoOutcome => "there is no outcome",
-        };
-        write!(f, "{number}, {words}")
-    }
-}
-
-// A refusal: its number, and the layer that gave it.
-#[derive(Clone, Copy)]
-pub struct Reason {
-    number: u8,
-    layer: Layer,
-}
-
-impl Display for Reason {
-    fn fmt<W: Write>(&self, f: &mut Formatter<W>) -> Printed {
-        let number = self.number;
-        let layer = self.layer;
-        write!(f, "refused {number}, {layer}")
-    }
-}
-
-impl From<RackFault> for Reason {
-    fn from(fault: RackFault) -> Reason {
-        Reason {
-            number: fault.number(),
-            layer: fault.layer(),
-        }
-    }
-}
-
-impl From<KioskFault> for Reason {
-    fn from(fault: KioskFault) -> Reason {
-        Reason {
-            number: fault.number(),
-            layer: fault.layer(),
-        }
-    }
-}
-
-impl From<EvaluatorFault> for Reason {
-    fn from(fault: EvaluatorFault) -> Reason {
-        Reason {
-            number: fault.number(),
-            layer: fault.layer(),
-        }
+impl fmt::Display for Said<Ruling> {
+    fn fmt<W: fmt::Write>(&self, f: &mut fmt::Formatter<W>) -> fmt::Result {
+        write!(f, "{}, {}", self.0.number(), self.0)
     }
 }
 
 // What was answered, or the refusal.
-pub fn told<T: Drop, E: Into<Reason>>(
-    heap: Global,
-    answer: Result<T, E>,
-) -> Result<String, AllocError>
+pub fn told<T: Drop, E: Refusal>(heap: Global, answer: Result<T, E>) -> Result<String, AllocError>
 where
-    Said<T>: Display,
+    Said<T>: fmt::Display,
 {
     match answer {
         Ok(value) => Said(value).to_string(heap),
@@ -136,8 +75,8 @@ where
     }
 }
 
-pub fn refused<E: Into<Reason>>(heap: Global, fault: E) -> Result<String, AllocError> {
-    fault.into().to_string(heap)
+pub fn refused<E: Refusal>(heap: Global, fault: E) -> Result<String, AllocError> {
+    format!(in heap; "refused {}, {}", fault.number(), fault.layer())
 }
 
 // What a call answered.
