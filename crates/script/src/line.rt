@@ -1,3 +1,7 @@
+ghost use Rattle.std.specs.Prelude.{◌≡◌, ◌==◌, ◌<◌, Ok, IfSome};
+ghost use Rattle.std.specs.List.{before_first, after_first};
+ghost use Rattle.script.specs.Lines.{word, argument, alone};
+
 use kiosk::call::Call;
 use rules::record::Record;
 use rules::rule::{LiteralSet, Sign};
@@ -35,20 +39,49 @@ pub(crate) fn read(line: &[u8]) -> Result<Line, Unreadable> {
     parse(from_utf8(line).map_err(|_| Unreadable::NoText)?)
 }
 
-// Reads a line of text. '#' starts a comment.
-pub fn parse(line: &str) -> Result<Line, Unreadable> {
-    let line = line.split_once('#').map_or(line, |(before, _)| before);
-    let line = line.trim();
-    let (word, rest) = line.split_once(' ').unwrap_or((line, ""));
+// Reads a line of text.
+pub fn parse(line: &str) -> Result<Line, Unreadable>
+    ensures { IfSome (alone (word line.now)) (λ l. result ≡ Ok l) }
+{
+    let (word, rest) = cut(line);
+    match parse_alone(word) {
+        Some(line) => Ok(line),
+        None => parse_with(word, rest),
+    }
+}
+
+// The word that a line begins with, and what follows. '#' starts a comment.
+fn cut(line: &str) -> (&str, &str)
+    ensures word { result.0.now ≡ word line.now }
+    ensures rest { result.1.now ≡ argument line.now }
+{
+    let (line, _) = around(line, '#');
+    let (word, rest) = around(line.trim(), ' ');
+    (word, rest.trim())
+}
+
+// What stands before the first such character and after it; without one, the whole text and nothing.
+fn around(text: &str, mark: char) -> (&str, &str)
+    requires { mark < 128 }
+    ensures before { result.0.now ≡ before_first (λ b. b == mark) text.now }
+    ensures after { result.1.now ≡ after_first (λ b. b == mark) text.now }
+{
+    text.split_once(mark).unwrap_or((text, ""))
+}
+
+// Reads a word that stands without an argument.
+fn parse_alone(word: &str) -> Option<Line>
+    ensures { result ≡ alone word.now }
+{
     match word {
-        "" => Ok(Line::Nothing),
-        "begin" => Ok(Line::Make(Call::Begin)),
-        "withdraw" => Ok(Line::Make(Call::Withdraw)),
-        "open" => Ok(Line::Make(Call::Open)),
-        "end" => Ok(Line::Make(Call::End)),
-        "outcomes" => Ok(Line::Make(Call::Outcomes)),
-        "report" => Ok(Line::Report),
-        _ => parse_with(word, rest.trim()),
+        "" => Some(Line::Nothing),
+        "begin" => Some(Line::Make(Call::Begin)),
+        "withdraw" => Some(Line::Make(Call::Withdraw)),
+        "open" => Some(Line::Make(Call::Open)),
+        "end" => Some(Line::Make(Call::End)),
+        "outcomes" => Some(Line::Make(Call::Outcomes)),
+        "report" => Some(Line::Report),
+        _ => None,
     }
 }
 
