@@ -2,6 +2,7 @@ use laying::fault::RackFault;
 use racks::file::FileRack;
 use racks::file::fault::FileFault;
 use rules::record::Record;
+use rules::refusal::Refusal;
 
 // The facts "matter 0" and "not matter 0".
 pub const YES_0: Record = Record {

@@ -1,5 +1,5 @@
--- How a line of a script is read: its word, and what a word asks for that stands without an argument.
-use Rattle.std.specs.Prelude.{ℕ, ◌==◌, List, [], codes, Some, None, Option, if◌then◌else◌}
+-- How a line of a script is read: its word, what a word asks for that stands without an argument, and which words take one.
+use Rattle.std.specs.Prelude.{ℕ, ◌==◌, Bool, ◌||◌, List, [], codes, Some, None, Option, if◌then◌else◌}
 use Rattle.std.specs.Str.{trim, bytes_eq}
 use Rattle.std.specs.List.{before_first, after_first}
 use Rattle.kiosk.specs.declared.call.Call.TheVariants.{Begin, Withdraw, Open, End, Outcomes}
@@ -28,3 +28,11 @@ alone w =
     if bytes_eq w (codes "outcomes") then Some (Make Outcomes) else
     if bytes_eq w (codes "report") then Some Report else
     None
+
+abbrev pub takes_argument : List ℕ → Bool
+takes_argument w =
+    bytes_eq w (codes "set")
+    || bytes_eq w (codes "lay")
+    || bytes_eq w (codes "fact")
+    || bytes_eq w (codes "reading")
+    || bytes_eq w (codes "ruling")

@@ -1,6 +1,7 @@
-ghost use Rattle.std.specs.Prelude.{◌≡◌, ◌==◌, ◌<◌, Ok, IfSome};
+ghost use Rattle.std.specs.Prelude.{◌≡◌, ◌==◌, ◌<◌, false, None, Ok, Err, IfSome};
 ghost use Rattle.std.specs.List.{before_first, after_first};
-ghost use Rattle.script.specs.Lines.{word, argument, alone};
+ghost use Rattle.script.specs.Lines.{word, argument, alone, takes_argument};
+ghost use Rattle.script.specs.declared.line.Unreadable.TheVariants.{NoSuchCall};
 
 use kiosk::call::Call;
 use rules::record::Record;
@@ -39,9 +40,10 @@ pub(crate) fn read(line: &[u8]) -> Result<Line, Unreadable> {
     parse(from_utf8(line).map_err(|_| Unreadable::NoText)?)
 }
 
-// Reads a line of text.
+// Reads a line of text. An `impl FromStr` would be a second name for the same, since callers have this one.
 pub fn parse(line: &str) -> Result<Line, Unreadable>
-    ensures { IfSome (alone (word line.now)) (λ l. result ≡ Ok l) }
+    ensures alone { IfSome (alone (word line.now)) (λ l. result ≡ Ok l) }
+    ensures unknown { alone (word line.now) ≡ None → takes_argument (word line.now) ≡ false → result ≡ Err NoSuchCall }
 {
     let (word, rest) = cut(line);
     match parse_alone(word) {
@@ -86,7 +88,9 @@ fn parse_alone(word: &str) -> Option<Line>
 }
 
 // Reads a line with an argument.
-fn parse_with(word: &str, rest: &str) -> Result<Line, Unreadable> {
+fn parse_with(word: &str, rest: &str) -> Result<Line, Unreadable>
+    ensures { takes_argument word.now ≡ false → result ≡ Err NoSuchCall }
+{
     match word {
         "set" => set_up(rest),
         "lay" => Ok(Line::Make(Call::Lay(rule(rest)?))),
