@@ -11,7 +11,7 @@ use Rattle.rules.specs.Parts.{no_rule}
 use Rattle.racks.specs.Meaning.{Meaning, Sound, Throughout, Rising, Kept, shaped}
 use Rattle.racks.proofs.Listed.{rising_append}
 use Rattle.racks.specs.Tables.{push_room}
-use Rattle.laying.specs.Laid.{all_of, throughout}
+use Rattle.racks.proofs.Laid.{all_of, throughout}
 use Rattle.layers.specs.Over.{own_places, fits, raised, over, shape_over, amended}
 
 -- what it is to fit

@@ -4,8 +4,8 @@ use Rattle.std.proofs.Common.{arith}
 use Rattle.std.proofs.ByRecursion.{all_kept_by}
 use Rattle.rules.specs.declared.rule.Rule.{Rule}
 use Rattle.racks.specs.Meaning.{Meaning, Sound, Kept}
-use Rattle.laying.specs.Chosen.{kept_fewer, rising_kept}
-use Rattle.laying.specs.Laid.{all_of, throughout}
+use Rattle.racks.proofs.Chosen.{kept_fewer, rising_kept}
+use Rattle.racks.proofs.Laid.{all_of, throughout}
 use Rattle.layers.specs.Showing.{showing}
 
 pub showing_kept : (p : Rule → Bool) (m : Meaning) → Kept m → Kept (showing p m)

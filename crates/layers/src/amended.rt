@@ -7,20 +7,16 @@ ghost use Rattle.laying.proofs.Pocketed.{pocket_kept};
 ghost use Rattle.layers.specs.OverLemmas.{over_kept};
 ghost use Rattle.layers.specs.Amending.{over_grounded};
 
-use crate::lookup::rule_at;
+use laying::admission::admit;
 use laying::fault::RackFault;
 use laying::open_rack::OpenRack;
 use laying::pocket::PocketRack;
 use racks::rack::Rack;
 use rules::record::Record;
 use rules::rule::{Rule, Shape};
-use rules::table::Table;
+use rules::table::{MOST_RULES, MOST_SHEETS, Table};
 
-const MOST_RULES: u16 = 256;
-
-const MOST_SHEETS: u16 = 32;
-
-const PLACES: u16 = 32;
+const PLACES: usize = 32;
 
 // Own sheets on any rack, in a pocket rack that counts its sheets from 0.
 #[derive(Drop)]
@@ -37,7 +33,7 @@ impl<R: Rack> Amended<R> {
     {
         let mut own = PocketRack::new();
         // A rack has 1 to 16 matters, so this is not refused.
-        let _ = own.set_up(below.shape().matters);
+        own.set_up(below.shape().matters).unwrap();
         Amended { below, own }
     }
 
@@ -50,7 +46,7 @@ impl<R: Rack> Amended<R> {
     {
         let below = self.below.shape();
         if !fits(below, self.own.shape()) {
-            let _ = self.own.set_up(below.matters);
+            self.own.set_up(below.matters).unwrap();
         }
         below
     }
@@ -66,7 +62,7 @@ impl<R: Rack> Rack for Amended<R> {
     }
 
     fn rule(&self, place: u16) -> Option<Rule> {
-        rule_at(&self.read(), place)
+        self.read().rule(place)
     }
 
     fn read(&self) -> Table {
@@ -92,7 +88,7 @@ impl<R: Rack> OpenRack for Amended<R> {
 
     fn begin(&mut self) -> Result<(), RackFault> {
         let below = self.settle();
-        if below.sheets as u16 + self.own.shape().sheets as u16 >= MOST_SHEETS {
+        if usize::from(below.sheets) + usize::from(self.own.shape().sheets) >= MOST_SHEETS {
             return Err(RackFault::TooManySheets);
         }
         self.own.begin()
@@ -100,16 +96,7 @@ impl<R: Rack> OpenRack for Amended<R> {
 
     fn lay(&mut self, record: Record) -> Result<(), RackFault> {
         let below = self.settle();
-        let own = self.own.shape();
-        if own.sheets == 0 {
-            return Err(RackFault::NoSheet);
-        }
-        if record.check(below.matters, 0).is_none() {
-            return Err(RackFault::BadRule);
-        }
-        if own.rules >= places(below) {
-            return Err(RackFault::PlacesFull);
-        }
+        admit(self.own.shape(), places(below), record)?;
         self.own.lay(record)
     }
 
@@ -152,12 +139,14 @@ fn fits(below: Shape, own: Shape) -> bool
     ensures { result ≡ fitting below own }
 {
     own.matters == below.matters
-        && below.sheets as u16 + own.sheets as u16 <= MOST_SHEETS
-        && own.rules <= places(below)
+        && usize::from(below.sheets) + usize::from(own.sheets) <= MOST_SHEETS
+        && usize::from(own.rules) <= places(below)
 }
 
-fn places(below: Shape) -> u16
+fn places(below: Shape) -> usize
     ensures { result ≡ own_places below }
 {
-    MOST_RULES.saturating_sub(below.rules).min(PLACES)
+    MOST_RULES
+        .saturating_sub(usize::from(below.rules))
+        .min(PLACES)
 }

@@ -2,6 +2,5 @@
 #![tactic(auto)]
 
 pub mod amended;
-mod lookup;
 pub mod showing;
 pub mod withheld;

@@ -2,9 +2,7 @@ ghost use Rattle.std.specs.Prelude.{◌≡◌};
 ghost use Rattle.layers.specs.Showing.{showing, off_sheet};
 ghost use Rattle.layers.specs.Shown.{showing_kept};
 
-use crate::lookup::rule_at;
 use crate::showing::show;
-use laying::sifting::Choice;
 use racks::rack::Rack;
 use rules::rule::{Rule, Shape};
 use rules::table::Table;
@@ -36,7 +34,7 @@ impl<R: Rack> Rack for Withheld<R> {
     }
 
     fn rule(&self, place: u16) -> Option<Rule> {
-        rule_at(&self.read(), place)
+        self.read().rule(place)
     }
 
     fn read(&self) -> Table {
@@ -44,18 +42,6 @@ impl<R: Rack> Rack for Withheld<R> {
     }
 
     fn survey(&self) -> (Shape, Table) {
-        show(self.below.survey(), &Off(self.sheet))
-    }
-}
-
-// The rules that are off a sheet.
-#[derive(Clone, Copy)]
-struct Off(u8);
-
-impl Choice for Off {
-    ghost chosen = { λ x. off_sheet x.0 };
-
-    fn takes(&self, rule: Rule) -> bool {
-        rule.sheet != self.0
+        show(self.below.survey(), |rule| rule.sheet != self.sheet)
     }
 }

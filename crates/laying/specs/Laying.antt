@@ -1,10 +1,11 @@
 -- What begin, lay and withdraw make of an open rack, and when they refuse.
-use Rattle.std.specs.Prelude.{◌≡◌, ℕ, ◌+◌, ◌-◌, ◌≤◌, Bool, not, leb, [], ◌∷◌, ◌++◌, length, filter, Result, nat_le, nat_lt}
+use Rattle.std.specs.Prelude.{◌≡◌, ℕ, ◌+◌, ◌≤◌, not, leb, [], ◌∷◌, length, filter, Result, nat_le}
 use Rattle.rules.specs.declared.record.Record.{Record}
-use Rattle.rules.specs.declared.rule.Rule.{Rule}
-use Rattle.rules.specs.Records.{good, ruled}
+use Rattle.rules.specs.declared.rule.Shape.{Shape}
+use Rattle.rules.specs.Records.{good}
 use Rattle.rules.specs.Refusals.{Table, Judged}
 use Rattle.racks.specs.Meaning.{Meaning}
+pub use Rattle.racks.specs.Changing.{under, begun, laid, withdrawn}
 use Rattle.laying.specs.declared.fault.RackFault.{RackFault}
 use Rattle.laying.specs.Faults.{rack_number}
 
@@ -16,9 +17,6 @@ pub record Ground : Type 0 where
 
 abbrev pub ground : Meaning → ℕ → ℕ → Ground
 ground m f p = record { meaning = m; floor = f; places = p }
-
-abbrev pub under : ℕ → Rule → Bool
-under s r = nat_lt r.sheet s
 
 -- one place is used by each rule above the floor
 abbrev pub used : Meaning → ℕ → ℕ
@@ -33,17 +31,6 @@ pub record Grounded (g : Ground) : Type 0 where
   pub housed : used g.meaning g.floor ≤ g.places
   pub bounded : g.places + below_floor g.meaning g.floor ≤ 256
 
--- What the calls make of a meaning
-
-abbrev pub begun : Meaning → Meaning
-begun m = record { matters = m.matters; sheets = m.sheets + 1; rules = m.rules }
-
-abbrev pub laid : Meaning → Record → Meaning
-laid m x = record { matters = m.matters; sheets = m.sheets; rules = m.rules ++ (ruled (m.sheets - 1) x ∷ []) }
-
-abbrev pub withdrawn : Meaning → Meaning
-withdrawn m = record { matters = m.matters; sheets = m.sheets - 1; rules = filter (under (m.sheets - 1)) m.rules }
-
 abbrev pub over_again : Ground → Meaning → Ground
 over_again g m = record { meaning = m; floor = g.floor; places = g.places }
 
@@ -57,6 +44,14 @@ lay_table g x =
     (12, nat_le g.meaning.sheets g.floor)
     ∷ ((13, not (good g.meaning.matters x))
     ∷ ((14, nat_le g.places (used g.meaning g.floor))
+    ∷ []))
+
+-- the same said of sheets that stand on the floor 0, by their shape
+abbrev pub admit_table : Shape → ℕ → Record → Table
+admit_table own places x =
+    (12, nat_le own.sheets 0)
+    ∷ ((13, not (good own.matters x))
+    ∷ ((14, nat_le places own.rules)
     ∷ []))
 
 abbrev pub withdraw_table : Ground → Table

@@ -2,4 +2,3 @@ pub mod Faults
 pub mod Laying
 pub mod Pocketing
 pub mod Laid
-pub mod Chosen

@@ -1,18 +1,15 @@
 -- What a pocket rack stands for, and how it is set up.
 use Rattle.std.specs.Prelude.{◌≡◌, ℕ, ◌||◌, [], ◌∷◌, Result, ◌==◌, nat_lt}
-use Rattle.rules.specs.Held.{held}
 use Rattle.rules.specs.Refusals.{Table, Judged}
 use Rattle.racks.specs.Meaning.{Meaning}
+use Rattle.racks.specs.Changing.{sheets_meaning}
+pub use Rattle.racks.specs.Changing.{bare}
 use Rattle.laying.specs.declared.fault.RackFault.{RackFault}
 use Rattle.laying.specs.declared.pocket.PocketRack.{PocketRack}
 use Rattle.laying.specs.Faults.{rack_number}
 
 abbrev pub pocket_meaning : PocketRack → Meaning
-pocket_meaning p = record { matters = p.matters; sheets = p.sheets; rules = held p.table }
-
--- n matters, and no sheet
-abbrev pub bare : ℕ → Meaning
-bare n = record { matters = n; sheets = 0; rules = [] }
+pocket_meaning p = sheets_meaning p.sheets
 
 abbrev pub set_up_table : ℕ → Table
 set_up_table n = (3, (n == 0) || nat_lt 16 n) ∷ []

@@ -1,35 +1,28 @@
-ghost use Rattle.std.specs.Prelude.{◌≡◌};
-ghost use Rattle.rules.specs.declared.refusal.Layer.TheVariants.{Rack};
 ghost use Rattle.laying.specs.Faults.{rack_number};
+ghost use Rattle.rules.specs.declared.refusal.Layer.TheVariants.{Rack as RackLayer};
 
-use rules::refusal::Layer;
+use rules::refusal::{Layer, Refusal};
 
 // Why a rack is not set up, or a sheet not begun, laid on or withdrawn.
 #[derive(Clone, Copy, PartialEq, Eq, Debug)]
 pub enum RackFault {
-    Matters,
-    TooManySheets,
-    NoSheet,
-    BadRule,
-    PlacesFull,
+    Matters = 3,
+    TooManySheets = 11,
+    NoSheet = 12,
+    BadRule = 13,
+    PlacesFull = 14,
 }
 
-impl RackFault {
-    pub fn number(self) -> u8
-        ensures { result ≡ rack_number self }
-    {
-        match self {
-            RackFault::Matters => 3,
-            RackFault::TooManySheets => 11,
-            RackFault::NoSheet => 12,
-            RackFault::BadRule => 13,
-            RackFault::PlacesFull => 14,
-        }
+impl Refusal for RackFault {
+    ghost numbered = { rack_number };
+
+    ghost layered = { λ _. RackLayer };
+
+    fn number(self) -> u8 {
+        self as u8
     }
 
-    pub fn layer(self) -> Layer
-        ensures { result ≡ Rack }
-    {
+    fn layer(self) -> Layer {
         Layer::Rack
     }
 }

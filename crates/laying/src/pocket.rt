@@ -1,21 +1,13 @@
-ghost use Rattle.std.specs.Prelude.{◌<◌, ◌≤◌, length};
-ghost use Rattle.rules.specs.Held.{held};
-ghost use Rattle.racks.specs.Meaning.{Sound, Throughout, Rising};
+ghost use Rattle.std.specs.Prelude.{◌≤◌, length};
+ghost use Rattle.racks.specs.Changing.{sheets_meaning};
 
-use rules::table::Table;
+use racks::sheets::Sheets;
 
 pub mod calls;
 
 // An open rack that stands on nothing, with 64 rule places.
 #[derive(Clone, Copy)]
 pub struct PocketRack {
-    matters: u8,
-    sheets: u8,
-    table: Table,
-    ghost some: { 0 < matters },
-    ghost few: { matters ≤ 16 },
-    ghost low: { sheets ≤ 32 },
-    ghost housed: { length (held table) ≤ 64 },
-    ghost sound: { Throughout (Sound matters sheets) (held table) },
-    ghost rising: { Rising (held table) },
+    sheets: Sheets,
+    ghost housed: { length (sheets_meaning sheets).rules ≤ 64 },
 }

@@ -1,5 +1,7 @@
+pub mod Laid
+pub mod Chosen
 pub mod Packings
-pub mod Sheets
+pub mod SheetReading
 pub mod Files
 pub mod Listed
 pub mod Unique

@@ -1,10 +1,13 @@
 -- Packing and unpacking: a record, the records of a sheet, the sheets.
-use Rattle.std.proofs.Common.{◌≡◌, ℕ, zero, suc, ◌+◌, ◌*◌, ◌<◌, ◌≤◌, true, false, List, [], ◌∷◌, ◌++◌, length, get_or, take, drop, refl, ap, ◌∙◌, subst, add_assoc, arith, length-drop, take-add}
+use Rattle.std.proofs.Common.{◌≡◌, ℕ, zero, suc, ◌+◌, ◌-◌, ◌*◌, ◌/◌, ◌<◌, ◌≤◌, true, false, List, [], ◌∷◌, length, get_or, take, drop, refl, ap, ◌∙◌, subst, arith, length-drop, take-add}
 use lib.Arith.{digits_div, digits_mod}
-use Rattle.std.proofs.lemmas.List.{drop_more, get_or-drop}
+use Rattle.std.proofs.lemmas.List.{drop_more, drop-take, get_or-drop, get_or-take, length-take-le}
 use Rattle.std.proofs.lemmas.Bool.{or_right}
+use Rattle.std.specs.Simd.{first_chunks}
+use Rattle.rules.specs.declared.record.Record.{Record}
 use Rattle.rules.specs.Records.{good}
 use Rattle.racks.specs.Packing.{two_bytes, packed_rule, packed_rules, record_at, records, some_bad}
+use Rattle.racks.specs.Reading.{unpacked}
 
 -- Two bytes
 
@@ -48,26 +51,43 @@ packed_records (suc k) bytes b l =
     let e : 6 * suc k ≡ 6 + 6 * k = omega arith in
     cc
 
-record_drop : (bytes : List ℕ) (k i : ℕ) → record_at (drop k bytes) i ≡ record_at bytes (k + i)
-record_drop bytes k i = simp (get_or-drop, add_assoc)
-
-next_record : (bytes : List ℕ) (k : ℕ) → record_at (drop 6 bytes) (6 * k) ≡ record_at bytes (6 * suc k)
-next_record bytes k = let e : 6 + 6 * k ≡ 6 * suc k = omega arith in record_drop bytes 6 (6 * k) ∙ ap (record_at bytes) e
-
-pub records_more : (k : ℕ) (bytes : List ℕ) → records (k + 1) bytes ≡ records k bytes ++ (record_at bytes (6 * k) ∷ [])
-records_more zero bytes = refl
-records_more (suc k) bytes =
-    let e : suc k + 1 ≡ suc (k + 1) = omega arith in
-    let f : records (suc k + 1) bytes ≡ record_at bytes 0 ∷ records (k + 1) (drop 6 bytes) = ap (λ (m : ℕ). records m bytes) e in
-    let h = records_more k (drop 6 bytes) in
-    let r = next_record bytes k in cc
-
 pub length_records : (k : ℕ) (bytes : List ℕ) → length (records k bytes) ≡ k
 length_records zero bytes = refl
 length_records (suc k) bytes = ap suc (length_records k (drop 6 bytes))
 
+-- the records of whole chunks of six bytes
+first_record : (n : ℕ) (bytes : List ℕ) → 6 ≤ n → record_at (take n bytes) 0 ≡ record_at bytes 0
+first_record n bytes l =
+    let g : (i : ℕ) → i < 6 → get_or (take n bytes) i 0 ≡ get_or bytes i 0 = λ i k. get_or-take n bytes i 0 (omega arith) in
+    let a = g 0 (omega arith) in
+    let b = g 1 (omega arith) in
+    let c = g 2 (omega arith) in
+    let d = g 3 (omega arith) in
+    let e = g 4 (omega arith) in
+    let f = g 5 (omega arith) in cc
+
+records_front : (k n : ℕ) (bytes : List ℕ) → 6 * k ≤ n → records k (take n bytes) ≡ records k bytes
+records_front zero n bytes l = refl
+records_front (suc k) n bytes l =
+    let a = first_record n bytes (omega arith) in
+    let q : 6 + (n - 6) ≡ n = omega arith in
+    let d = subst (λ (m : ℕ). drop 6 (take m bytes) ≡ take (n - 6) (drop 6 bytes)) q (drop-take 6 (n - 6) bytes) in
+    let h = records_front k (n - 6) (drop 6 bytes) (omega arith) in cc
+
+records_chunks : (k : ℕ) (bytes : List ℕ) → unpacked (first_chunks 6 k bytes) ≡ records k bytes
+records_chunks zero bytes = refl
+records_chunks (suc k) bytes = let h = records_chunks k (drop 6 bytes) in let r = first_record 6 bytes (omega arith) in cc
+
+pub unpacked_records : (v : ℕ) (bytes rules : List ℕ) → rules ≡ take v bytes → v ≤ length bytes → unpacked (first_chunks 6 (length rules / 6) rules) ≡ records (v / 6) bytes
+unpacked_records v bytes rules e l =
+    let n : length rules ≡ v = ap length e ∙ length-take-le v bytes l in
+    records_chunks (length rules / 6) rules
+    ∙ ap (λ (k : ℕ). records (k / 6) rules) n
+    ∙ ap (records (v / 6)) e
+    ∙ records_front (v / 6) v bytes (omega arith)
+
 -- one bad record among those read
-pub bad_at : (n k m : ℕ) (bytes : List ℕ) → k < m → good n (record_at bytes (6 * k)) ≡ false → some_bad n (records m bytes) ≡ true
-bad_at n k zero bytes l e = absurd (omega arith)
-bad_at n zero (suc m) bytes l e = rw e
-bad_at n (suc k) (suc m) bytes l e = or_right _ _ (bad_at n k m (drop 6 bytes) (omega arith) (ap (good n) (next_record bytes k) ∙ e))
+pub bad_at : (n i : ℕ) (xs : List Record) (x : Record) → i < length xs → good n (get_or xs i x) ≡ false → some_bad n xs ≡ true
+bad_at n i [] x l e = absurd (omega arith)
+bad_at n zero (y ∷ xs) x l e = rw e
+bad_at n (suc i) (y ∷ xs) x l e = or_right _ _ (bad_at n i xs x (omega arith) e)

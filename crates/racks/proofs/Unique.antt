@@ -9,7 +9,7 @@ use Rattle.rules.specs.Refusals.{first_met}
 use Rattle.rules.proofs.Refusing.{none≢some}
 use Rattle.racks.specs.Packing.{packed_rules, packed_sheet, packed_sheets, count, File, stated, record_at, records, some_bad, head_table, sheet_table, Reaches, Refused, in_head, in_sheet, at_end}
 use Rattle.racks.specs.Filing.{Unambiguous}
-use Rattle.racks.proofs.Sheets.{sheet_met}
+use Rattle.racks.proofs.SheetReading.{sheet_met}
 
 number_back : (v w : ℕ) → v / 256 ≡ w / 256 → v % 256 ≡ w % 256 → v ≡ w
 number_back v w d m = omega arith

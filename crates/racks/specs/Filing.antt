@@ -1,15 +1,15 @@
 -- What a file rack stands for, and what filling one does.
 use Rattle.std.specs.Prelude.{◌≡◌, ℕ, List, Ok, Err, Result}
 use Rattle.rules.specs.declared.record.Record.{Record}
-use Rattle.rules.specs.Held.{held}
 use Rattle.racks.specs.declared.file.FileRack.{FileRack}
 use Rattle.racks.specs.declared.file.fault.FileFault.{FileFault}
 use Rattle.racks.specs.Meaning.{Meaning}
+use Rattle.racks.specs.Changing.{sheets_meaning}
 use Rattle.racks.specs.Packing.{File, Refused, rack_of}
 use Rattle.racks.specs.Faults.{file_number}
 
 abbrev pub file_meaning : FileRack → Meaning
-file_meaning f = record { matters = f.matters; sheets = f.sheets; rules = held f.table }
+file_meaning f = sheets_meaning f.sheets
 
 -- the bytes are a file, and the rack is the rack of its sheets
 pub record Filled (bytes : List ℕ) (rack : FileRack) : Type 0 where

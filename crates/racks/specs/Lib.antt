@@ -1,4 +1,6 @@
 pub mod Meaning
+pub mod Changing
+pub mod Sifting
 pub mod Packing
 pub mod Faults
 pub mod Reading

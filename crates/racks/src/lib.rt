@@ -3,3 +3,5 @@
 
 pub mod file;
 pub mod rack;
+pub mod sheets;
+pub mod sifting;

@@ -1,18 +1,17 @@
-ghost use Rattle.std.specs.Prelude.{◌≡◌, ◌<◌, ◌≤◌, refl};
-ghost use Rattle.laying.specs.Laying.{ground, under};
+ghost use Rattle.std.specs.Prelude.{◌≡◌, refl};
+ghost use Rattle.laying.specs.Laying.{ground};
 ghost use Rattle.laying.specs.Pocketing.{pocket_meaning, bare, SetsUp};
-ghost use Rattle.racks.specs.Tables.{held_few};
 ghost use Rattle.laying.specs.Laid.{grounded_low};
 
+use crate::admission::admit;
 use crate::fault::RackFault;
 use crate::open_rack::OpenRack;
 use crate::pocket::PocketRack;
-use crate::sifting::{Choice, sift};
 use racks::rack::Rack;
-use rules::matters::may_have;
+use racks::sheets::Sheets;
 use rules::record::Record;
 use rules::rule::{Rule, Shape};
-use rules::table::{MOST_SHEETS, Table};
+use rules::table::Table;
 
 const PLACES: usize = 64;
 
@@ -21,59 +20,36 @@ impl PocketRack {
     pub fn new() -> PocketRack
         ensures { pocket_meaning result ≡ bare 1 }
     {
-        with_no_sheet(1)
+        PocketRack {
+            sheets: Sheets::new(),
+        }
     }
 
     // So many matters, and no sheet. A refusal changes nothing.
     pub fn set_up(&mut self, matters: u8) -> Result<(), RackFault>
         ensures { SetsUp matters (pocket_meaning self.old) result (pocket_meaning self.new) }
     {
-        if !may_have(matters) {
-            return Err(RackFault::Matters);
-        }
-        *self = with_no_sheet(matters);
+        let sheets = Sheets::with_matters(matters).ok_or(RackFault::Matters)?;
+        *self = PocketRack { sheets };
         Ok(())
-    }
-}
-
-fn with_no_sheet(matters: u8) -> PocketRack
-    requires { (0 < matters) × (matters ≤ 16) }
-    ensures { pocket_meaning result ≡ bare matters }
-{
-    PocketRack {
-        matters,
-        sheets: 0,
-        table: Table::new(),
     }
 }
 
 impl Rack for PocketRack {
     ghost meaning = { pocket_meaning };
 
-    ghost kept = { λ x.
-        record {
-          some_matters = x.some;
-          few_matters = x.few;
-          few_sheets = x.low;
-          few_rules = held_few x.table;
-          sound = x.sound;
-          rising = x.rising;
-        } };
+    ghost kept = { λ x. x.sheets.kept };
 
     fn shape(&self) -> Shape {
-        Shape {
-            matters: self.matters,
-            sheets: self.sheets,
-            rules: self.table.len() as u16,
-        }
+        self.sheets.shape()
     }
 
     fn rule(&self, place: u16) -> Option<Rule> {
-        self.table.as_slice().get(place as usize).copied()
+        self.sheets.rule(place)
     }
 
     fn read(&self) -> Table {
-        self.table
+        self.sheets.read()
     }
 }
 
@@ -85,45 +61,16 @@ impl OpenRack for PocketRack {
     ghost grounded = { λ x. grounded_low (pocket_meaning x) x.housed };
 
     fn begin(&mut self) -> Result<(), RackFault> {
-        if self.sheets as usize >= MOST_SHEETS {
-            return Err(RackFault::TooManySheets);
-        }
-        self.sheets += 1;
-        Ok(())
+        self.sheets.begin().ok_or(RackFault::TooManySheets)
     }
 
     fn lay(&mut self, record: Record) -> Result<(), RackFault> {
-        if self.sheets == 0 {
-            return Err(RackFault::NoSheet);
-        }
-        let Some(rule) = record.check(self.matters, self.sheets - 1) else {
-            return Err(RackFault::BadRule);
-        };
-        if self.table.len() >= PLACES {
-            return Err(RackFault::PlacesFull);
-        }
-        self.table.push(rule);
-        Ok(())
+        admit(self.shape(), PLACES, record)?;
+        // Not refused: 64 places are fewer than a table has.
+        self.sheets.lay(record).ok_or(RackFault::PlacesFull)
     }
 
     fn withdraw(&mut self) -> Result<(), RackFault> {
-        if self.sheets == 0 {
-            return Err(RackFault::NoSheet);
-        }
-        self.sheets -= 1;
-        self.table = sift(&self.table, &Lower(self.sheets));
-        Ok(())
-    }
-}
-
-// The rules of the first so many sheets.
-#[derive(Clone, Copy)]
-struct Lower(u8);
-
-impl Choice for Lower {
-    ghost chosen = { λ x. under x.0 };
-
-    fn takes(&self, rule: Rule) -> bool {
-        rule.sheet < self.0
+        self.sheets.withdraw().ok_or(RackFault::NoSheet)
     }
 }

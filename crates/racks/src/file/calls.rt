@@ -1,12 +1,12 @@
 ghost use Rattle.std.specs.Prelude.{◌≡◌, []};
 ghost use Rattle.racks.specs.Packing.{rack_of};
 ghost use Rattle.racks.specs.Filing.{file_meaning, Fills, Unambiguous};
-ghost use Rattle.racks.specs.Tables.{held_few};
 
 use crate::file::FileRack;
 use crate::file::fault::FileFault;
 use crate::file::reader::parse;
 use crate::rack::Rack;
+use crate::sheets::Sheets;
 use rules::rule::{Rule, Shape};
 use rules::table::Table;
 
@@ -16,9 +16,7 @@ impl FileRack {
         ensures { file_meaning result ≡ rack_of 1 [] }
     {
         FileRack {
-            matters: 1,
-            sheets: 0,
-            table: Table::new(),
+            sheets: Sheets::new(),
         }
     }
 
@@ -35,29 +33,17 @@ impl FileRack {
 impl Rack for FileRack {
     ghost meaning = { file_meaning };
 
-    ghost kept = { λ x.
-        record {
-          some_matters = x.some;
-          few_matters = x.few;
-          few_sheets = x.low;
-          few_rules = held_few x.table;
-          sound = x.sound;
-          rising = x.rising;
-        } };
+    ghost kept = { λ x. x.sheets.kept };
 
     fn shape(&self) -> Shape {
-        Shape {
-            matters: self.matters,
-            sheets: self.sheets,
-            rules: self.table.len() as u16,
-        }
+        self.sheets.shape()
     }
 
     fn rule(&self, place: u16) -> Option<Rule> {
-        self.table.as_slice().get(place as usize).copied()
+        self.sheets.rule(place)
     }
 
     fn read(&self) -> Table {
-        self.table
+        self.sheets.read()
     }
 }

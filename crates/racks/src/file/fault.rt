@@ -1,43 +1,32 @@
-ghost use Rattle.std.specs.Prelude.{◌≡◌};
-ghost use Rattle.rules.specs.declared.refusal.Layer.TheVariants.{File};
 ghost use Rattle.racks.specs.Faults.{file_number};
+ghost use Rattle.rules.specs.declared.refusal.Layer.TheVariants.{File as FileLayer};
 
-use rules::refusal::Layer;
+use rules::refusal::{Layer, Refusal};
 
 // Why bytes are no packed file.
 #[derive(Clone, Copy, PartialEq, Eq, Debug)]
 pub enum FileFault {
-    TooShort,
-    Version,
-    Matters,
-    TooManySheets,
-    CutOff,
-    Ragged,
-    TooManyRules,
-    BadRule,
-    LeftOver,
+    TooShort = 1,
+    Version = 2,
+    Matters = 3,
+    TooManySheets = 4,
+    CutOff = 5,
+    Ragged = 6,
+    TooManyRules = 7,
+    BadRule = 8,
+    LeftOver = 9,
 }
 
-impl FileFault {
-    pub fn number(self) -> u8
-        ensures { result ≡ file_number self }
-    {
-        match self {
-            FileFault::TooShort => 1,
-            FileFault::Version => 2,
-            FileFault::Matters => 3,
-            FileFault::TooManySheets => 4,
-            FileFault::CutOff => 5,
-            FileFault::Ragged => 6,
-            FileFault::TooManyRules => 7,
-            FileFault::BadRule => 8,
-            FileFault::LeftOver => 9,
-        }
+impl Refusal for FileFault {
+    ghost numbered = { file_number };
+
+    ghost layered = { λ _. FileLayer };
+
+    fn number(self) -> u8 {
+        self as u8
     }
 
-    pub fn layer(self) -> Layer
-        ensures { result ≡ File }
-    {
+    fn layer(self) -> Layer {
         Layer::File
     }
 }

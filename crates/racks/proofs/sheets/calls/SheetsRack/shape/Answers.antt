@@ -1,5 +1,5 @@
 use Rattle.racks.specs.Tables.{held_few}
-use Rattle.racks.proofs.file.calls.FileRackRack.shape.Goals as goal
+use Rattle.racks.proofs.sheets.calls.SheetsRack.shape.Goals as goal
 use Rattle.std.proofs.Common.{rules}
 
 pub overflow_cast-result : goal.overflow_cast-result
