@@ -1,13 +1,17 @@
 -- The slip's facts.
-use Rattle.std.specs.Prelude.{◌≡◌, ℕ, zero, suc, ◌+◌, ◌<◌, ◌≤◌, true, false, ltb, List, [], ◌∷◌, ◌++◌, length, Some, None, filter, ◌==◌, nat_eq, nat_lt, slice_index_or, refl}
-use Rattle.std.proofs.Common.{sym, ap, subst, ◌∙◌, ⊎_elim, arith, add-one}
-use Rattle.std.proofs.lemmas.List.{get_or_append_left, get_or_push, length_push, length-set}
-use Rattle.std.proofs.lemmas.Bool.{lt-ltb, le-ltb, ne_eqb, eq-eqb, cases_lt, cases_Bool, eqb-true}
+use Rattle.std.specs.Prelude.{◌≡◌, ℕ, zero, suc, ◌<◌, ◌≤◌, true, false, List, [], ◌∷◌, ◌++◌, map, length, Some, None, nat_eq, refl}
+use Rattle.std.proofs.Common.{sym, ap, ◌∙◌, ⊎_elim, arith}
+use Rattle.std.proofs.lemmas.List.{get_or_append_left, get_or_push, get_or-map, length-map, length_push, length-set}
+use Rattle.std.specs.List.{list_any}
+use Rattle.std.proofs.lemmas.List.Folds.{Any-from_list_any}
+use Rattle.std.proofs.lemmas.Map.Made.{IsDistinct-from_AllPairs}
+use Rattle.std.proofs.lemmas.Map.Steps.{length-le_from_distinct_below}
+use Rattle.std.proofs.lemmas.Bool.Decides.{Decides-eqb}
+use Rattle.std.proofs.lemmas.Bool.{ne_eqb, eq-eqb, cases_lt, eqb-true}
 use Rattle.rules.specs.declared.rule.Sign.{Sign}
 use Rattle.kiosk.specs.declared.slip.Fact.{Fact}
 use Rattle.kiosk.specs.Slip.{no_fact, re_signed, Finds, Known, Apart}
 use Rattle.kiosk.specs.Book.{names, noted}
-use Rattle.kiosk.specs.Kept.{kept_nothing, kept_split, bit}
 
 pub not_named : (fs : List Fact) (a : ℕ) → Finds fs a None → names fs a ≡ false
 not_named [] a h = refl
@@ -35,23 +39,8 @@ noted_new (f ∷ fs) a s h =
     let e : nat_eq f.matter a ≡ false = ne_eqb f.matter a (λ q. h 0 (omega arith) q) in
     rw e (ap (λ (gs : List Fact). f ∷ gs) (noted_new fs a s (λ k l q. h (suc k) (omega arith) q)))
 
--- a change of sign keeps the matters
-pub matter_kept : (fs : List Fact) (i k : ℕ) (s : Sign) → (slice_index_or (re_signed fs i s) k no_fact).matter ≡ (slice_index_or fs k no_fact).matter
-matter_kept [] zero k s = refl
-matter_kept [] (suc i) k s = refl
-matter_kept (f ∷ fs) zero zero s = refl
-matter_kept (f ∷ fs) zero (suc k) s = refl
-matter_kept (f ∷ fs) (suc i) zero s = refl
-matter_kept (f ∷ fs) (suc i) (suc k) s = matter_kept fs i k s
-
 pub length_re_signed : (fs : List Fact) (i : ℕ) (s : Sign) → length (re_signed fs i s) ≡ length fs
 length_re_signed fs i s = length-set fs i _
-
-pub known_re_signed : (n : ℕ) (fs : List Fact) (i : ℕ) (s : Sign) → Known n fs → Known n (re_signed fs i s)
-known_re_signed n fs i s h k l = rw (matter_kept fs i k s) (h k (omega (arith, length_re_signed fs i s)))
-
-pub apart_re_signed : (fs : List Fact) (i : ℕ) (s : Sign) → Apart fs → Apart (re_signed fs i s)
-apart_re_signed fs i s h j k jk l q = h j k jk (omega (arith, length_re_signed fs i s)) (sym (matter_kept fs i j s) ∙ q ∙ matter_kept fs i k s)
 
 pub known_push : (n : ℕ) (fs : List Fact) (x : Fact) → Known n fs → x.matter < n → Known n (fs ++ (x ∷ []))
 known_push n fs x h lt k l =
@@ -70,35 +59,18 @@ apart_push fs x h new i j ij l q =
     (cases_lt j (length fs))
 
 -- facts on matters below n, no two on one, are at most n
-one_kept : (a : ℕ) (fs : List Fact) → Apart fs → length (filter (λ f. nat_eq f.matter a) fs) ≤ 1
-one_kept a [] h = omega arith
-one_kept a (f ∷ fs) h =
-    let r = one_kept a fs (λ i j ij l q. h (suc i) (suc j) (omega arith) (omega arith) q) in
-    ⊎_elim
-    (λ t. let m : f.matter ≡ a = eqb-true f.matter a t in
-    let z = kept_nothing no_fact (λ f. nat_eq f.matter a) fs (λ k l. ne_eqb (slice_index_or fs k no_fact).matter a (λ q. h 0 (suc k) (omega arith) (omega arith) (m ∙ sym q))) in
-    rw (t, z) (omega arith))
-    (λ t. rw t r)
-    (cases_Bool (f.matter == a))
-
-below_kept : (n : ℕ) (fs : List Fact) → Apart fs → length (filter (λ f. ltb f.matter n) fs) ≤ n
-below_kept zero fs h = rw (kept_nothing no_fact (λ f. ltb f.matter 0) fs (λ k l. le-ltb (slice_index_or fs k no_fact).matter 0 (omega arith))) (omega arith)
-below_kept (suc n) fs h =
-    let r = below_kept n fs h in
-    subst (λ (k : ℕ). length (filter (λ f. ltb f.matter k) fs) ≤ k) (add-one n)
-    (omega (arith, r, one_kept n fs h, kept_split (λ f. ltb f.matter (n + 1)) (λ f. ltb f.matter n) (λ f. nat_eq f.matter n) fs (λ f. next n f.matter)))
-  where
-    next : (n m : ℕ) → bit (nat_lt m (n + 1)) ≡ bit (nat_lt m n) + bit (m == n)
-    next n m = grind arith
-
-all_kept : (n : ℕ) (fs : List Fact) → Known n fs → filter (λ f. ltb f.matter n) fs ≡ fs
-all_kept n [] h = refl
-all_kept n (f ∷ fs) h =
-    let e : ltb f.matter n ≡ true = lt-ltb f.matter n (h 0 (omega arith)) in
-    rw e (ap (λ (gs : List Fact). f ∷ gs) (all_kept n fs (λ k l. h (suc k) (omega arith))))
-
 pub few_facts : (n : ℕ) (fs : List Fact) → Known n fs → Apart fs → length fs ≤ n
-few_facts n fs k a = omega (arith, below_kept n fs a, ap length (all_kept n fs k))
+few_facts n fs known apart =
+    let matter : Fact → ℕ = λ f. f.matter in
+    let ms = map matter fs in
+    let e = length-map fs matter in
+    let distinct = IsDistinct-from_AllPairs {eq = nat_eq} Decides-eqb ms
+    (λ i j d ij l q. apart i j ij (omega (arith, e)) (sym (get_or-map matter fs i no_fact d (omega (arith, e))) ∙ q ∙ get_or-map matter fs j no_fact d (omega (arith, e)))) in
+    let below : (q : ℕ) → list_any (nat_eq q) ms ≡ true → q < n = λ q t.
+    let p = Any-from_list_any (nat_eq q) ms t in
+    let l : p.0 < length fs = omega (arith, e, p.2) in
+    omega (arith, known p.0 l, eqb-true q p.1 p.4, p.3, get_or-map matter fs p.0 no_fact p.1 l) in
+    omega (arith, e, length-le_from_distinct_below ms n distinct below)
 
 -- so a new fact finds one of n places
 pub room_for : (n : ℕ) (fs : List Fact) (x : Fact) → Known n fs → Apart fs → x.matter < n → Finds fs x.matter None → length fs < n

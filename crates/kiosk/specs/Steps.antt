@@ -18,6 +18,7 @@ use Rattle.kiosk.specs.declared.call.Call.{Call}
 use Rattle.kiosk.specs.declared.call.Call.TheVariants.{Begin, Lay, Withdraw, Open, Fact as Stating}
 use Rattle.kiosk.specs.declared.fault.KioskFault.{KioskFault}
 use Rattle.kiosk.specs.declared.fault.KioskFault.TheVariants.{Rack, BadFact, RulesFull}
+use Rattle.kiosk.specs.declared.kiosk.Kiosk.{Kiosk}
 use Rattle.kiosk.specs.declared.slip.Fact.{Fact}
 use Rattle.kiosk.specs.Slip.{Finds, re_signed, matters_in}
 use Rattle.kiosk.specs.Book.{Book, Stepped, Table, judged, step, written, Does, total, with_sheets, in_session}
@@ -78,58 +79,63 @@ passes t old new k s (Err f) P Q e p q j =
     let d = refused t old new f j.0 in
     (d.0 ∙ sym (ap (λ (x : Stepped). x.answer) e), q j.1 ∙ d.1 ∙ sym (ap (λ (x : Stepped). x.book) e))
 
-pub kept_below : {m n : Meaning} → m ≡ n → Kept n → Kept m
-kept_below e kept = subst Kept (sym e) kept
+-- a call of the rack below, with no session before and none after: neither book has a slip
+module _ {m : Meaning} (g h : Ground) (below : g.meaning ≡ m) (met : Kept m) (b : Bool) (fs : List Fact) (o : Option ℕ) (es : List Fact) (free : in_session (slip_of b fs) ≡ false) (closed : o ≡ None) where
+  kept : Kept g.meaning
+  kept = subst Kept (sym below) met
 
-module _ (g h : Ground) (kept : Kept g.meaning) where
   abbrev same : h ≡ g → booked h None ≡ booked g None
   same e = ap (λ (k : Ground). booked k None) e
 
-  pub begin_steps : (r : Result (Unit {0}) RackFault) → Begins g r h → Does (step (booked g None) Begin) (lifted r) (booked h None)
-  begin_steps r b =
+  abbrev Passes : Call → Result (Unit {0}) RackFault → Type 0
+  Passes C r = Does (step (booked g (slip_of b fs)) C) (lifted r) (booked h (slip_of (seated (shaped h.meaning) o es) es))
+
+  passed_on : (C : Call) (r : Result (Unit {0}) RackFault) → Does (step (booked g None) C) (lifted r) (booked h None) → Passes C r
+  passed_on C r d = rw closed (go b free)
+    where
+      go : (t : Bool) → in_session (slip_of t fs) ≡ false → Does (step (booked g (slip_of t fs)) C) (lifted r) (booked h None)
+      go true e = absurd (true≢false e)
+      go false e = d
+
+  pub begin_steps : (r : Result (Unit {0}) RackFault) → Begins g r h → Passes Begin r
+  begin_steps r d =
       let n = g.meaning.sheets in
       let P = g.meaning.rules in
       let old = booked g None in
       let new = written old Begin in
-      passes ((TooManySheets, nat_le 32 n) ∷ []) old new (booked h None) (step old Begin) r _ _
+      passed_on Begin r
+      (passes ((TooManySheets, nat_le 32 n) ∷ []) old new (booked h None) (step old Begin) r _ _
       (ap (λ (k : ℕ). judged (passed ((TooManySheets, nat_le 32 k) ∷ [])) old new) (length_sheets n P))
       (λ e. ap (λ (k : Ground). booked k None) e ∙ ap (with_sheets old) (sheets_begun n P (λ k l. (kept.sound k l).0)))
-      same b
+      same d)
 
-  pub lay_steps : (x : Record) (r : Result (Unit {0}) RackFault) → Lays g x r h → Does (step (booked g None) (Lay x)) (lifted r) (booked h None)
-  lay_steps x r b =
+  pub lay_steps : (x : Record) (r : Result (Unit {0}) RackFault) → Lays g x r h → Passes (Lay x) r
+  lay_steps x r d =
       let n = g.meaning.sheets in
       let P = g.meaning.rules in
       let old = booked g None in
       let new = written old (Lay x) in
       let t : ℕ → ℕ → RackTable = λ k u. (NoSheet, nat_le k g.floor) ∷ ((BadRule, not (good g.meaning.matters x)) ∷ ((PlacesFull, nat_le g.places u) ∷ [])) in
-      passes (t n (used g.meaning g.floor)) old new (booked h None) (step old (Lay x)) r _ _
+      passed_on (Lay x) r
+      (passes (t n (used g.meaning g.floor)) old new (booked h None) (step old (Lay x)) r _ _
       (ap (λ (k : ℕ). judged (passed (t k (total (drop g.floor (sheets_of n P))))) old new) (length_sheets n P)
       ∙ ap (λ (u : ℕ). judged (passed (t n u)) old new) (used_sheets g.floor n P (λ k l. (kept.sound k l).0)))
       (λ e. ap (λ (k : Ground). booked k None) e ∙ ap (with_sheets old) (sheets_laid n P (ruled (n - 1) x) refl))
-      same b
+      same d)
 
-  pub withdraw_steps : (r : Result (Unit {0}) RackFault) → Withdraws g r h → Does (step (booked g None) Withdraw) (lifted r) (booked h None)
-  withdraw_steps r b =
+  pub withdraw_steps : (r : Result (Unit {0}) RackFault) → Withdraws g r h → Passes Withdraw r
+  withdraw_steps r d =
       let n = g.meaning.sheets in
       let P = g.meaning.rules in
       let old = booked g None in
       let new = written old Withdraw in
-      passes ((NoSheet, nat_le n g.floor) ∷ []) old new (booked h None) (step old Withdraw) r _ _
+      passed_on Withdraw r
+      (passes ((NoSheet, nat_le n g.floor) ∷ []) old new (booked h None) (step old Withdraw) r _ _
       (ap (λ (k : ℕ). judged (passed ((NoSheet, nat_le k g.floor) ∷ [])) old new) (length_sheets n P))
       (λ e. ap (λ (k : Ground). booked k None) e ∙ ap (with_sheets old) (sheets_withdrawn n P))
-      same b
+      same d)
 
 -- Sessions
-
--- no session before and none after: neither book has a slip
-pub passed_on : (C : Call) (g h : Ground) (b : Bool) (fs : List Fact) (o : Option ℕ) (es : List Fact) (r : Result (Unit {0}) KioskFault) → in_session (slip_of b fs) ≡ false → o ≡ None → Does (step (booked g None) C) r (booked h None) → Does (step (booked g (slip_of b fs)) C) r (booked h (slip_of (seated (shaped h.meaning) o es) es))
-passed_on C g h true fs o es r e n d = absurd (true≢false e)
-passed_on C g h false fs o es r e n d = rw n d
-
--- a test of the shape below is one of what the rack below stands for
-pub seated_is : {v : Bool} (w : Bool) {below : Shape} (m : Meaning) (o : Option ℕ) (fs : List Fact) → below ≡ shaped m → v ≡ seated below o fs → v ≡ w → seated (shaped m) o fs ≡ w
-seated_is w m o fs q h e = sym (h ∙ ap (λ (x : Shape). seated x o fs) q) ∙ e
 
 pub seated_from : (m : Meaning) (o : Option ℕ) (fs : List Fact) → o ≡ Some m.matters → m.sheets < 32 → length m.rules + length fs ≤ 256 → seated (shaped m) o fs ≡ true
 seated_from m o fs e l s = rw e (and_from _ _ (eq-eqb m.matters m.matters refl) (and_from _ _ (lt-ltb _ _ l) (le-leb _ _ s)))
@@ -172,11 +178,13 @@ pub record Opened (g : Ground) (below : Shape) (o : Option ℕ) (fs : List Fact)
   pub sheets : g.meaning.sheets < 32
   pub rules : length g.meaning.rules + length fs ≤ 256
 
-pub opened : {v : Bool} (g : Ground) (below : Shape) (o : Option ℕ) (fs : List Fact) → Kept g.meaning → below ≡ shaped g.meaning → v ≡ seated below o fs → v ≡ true → Opened g below o fs
-opened g below o fs kept q h e =
-    let sat = seated_is true g.meaning o fs q h e in
-    let p = seated_parts g.meaning o fs sat in
-    record { kept = kept; shape = q; seat = sat; matters = p.0; sheets = p.1; rules = p.2 }
+pub opened : {R : Type 0} (m : R → Meaning) (g : R → Ground) (k : Kiosk R) {below : Shape} {v : Bool} → (g k.rack).meaning ≡ m k.rack → Kept (m k.rack) → below ≡ shaped (m k.rack) → v ≡ seated below k.session k.slip.facts.items → v ≡ true → Opened (g k.rack) below k.session k.slip.facts.items
+opened m g k same kept shape h e =
+    let n = (g k.rack).meaning in
+    let q = shape ∙ ap shaped (sym same) in
+    let sat : seated (shaped n) k.session k.slip.facts.items ≡ true = sym (h ∙ ap (λ (x : Shape). seated x k.session k.slip.facts.items) q) ∙ e in
+    let p = seated_parts n k.session k.slip.facts.items sat in
+    record { kept = subst Kept (sym same) kept; shape = q; seat = sat; matters = p.0; sheets = p.1; rules = p.2 }
 
 pub sound_fact : {g : Ground} {below : Shape} {o : Option ℕ} {fs : List Fact} → Opened g below o fs → (a s : ℕ) → good below.matters (fact_record a s) ≡ true → a < matters_in o
 sound_fact {g} {below} t a s h =

@@ -21,7 +21,7 @@ pub struct Fact {
     pub sign: Sign,
 }
 
-// What a slip's free places hold.
+// What a slip's free places hold. By hand, since neither sign is a sign's default.
 impl Default for Fact {
     fn default() -> Fact {
         Fact {

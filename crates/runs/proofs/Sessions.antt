@@ -40,9 +40,6 @@ fact_keeps b a s = fact_by b b.slip a s
 pub done_answers : (over : Overruling) (places : ℕ) (b k : Book) (c d : Call) (r : Result (Unit {0}) KioskFault) → c ≡ d → asks d ≡ false → Does (step b d) r k → Answers over places b c (Done r)
 done_answers over places b k c d r e q h = (ap asks e ∙ q, h.0 ∙ ap (λ (x : Call). (step b x).answer) (sym e))
 
-pub done_book : (b k : Book) (c d : Call) → c ≡ d → k ≡ (step b d).book → k ≡ (step b c).book
-done_book b k c d e h = h ∙ ap (λ (x : Call). (step b x).book) (sym e)
-
 -- a call that keeps the session keeps the tickets in hand
 pub purse_kept : (p : Purse) (b k : Book) (c : Call) → in_session (step b c).book.slip ≡ in_session b.slip → k ≡ (step b c).book → Pursed b p → Pursed k p
 purse_kept p b k c s h q = q ∙ sym (ap (λ (x : Book). in_session x.slip) h ∙ s)

@@ -1,5 +1,5 @@
 -- What a run has in hand: tickets, one in reserve and one more while a session is open, and blank lists.
-use Rattle.std.specs.Prelude.{◌≡◌, ℕ, ◌≤◌, List, replicate, is_some, vec_items, vec_len, Vec}
+use Rattle.std.specs.Prelude.{◌≡◌, ℕ, ◌≤◌, replicate, is_some, vec_items, vec_len, Vec}
 use Rattle.std.specs.List.{AllByRecursion}
 use Rattle.kiosk.specs.Book.{Book, in_session}
 use Rattle.runs.specs.declared.run.Purse.{Purse}

@@ -74,7 +74,7 @@ impl<R: OpenRack> Kiosk<R> {
         ensures slip { OnOk result ((book_of R.OpenRack.state self.new).slip ≡ Some []) }
     {
         let below = self.idle()?;
-        if below.sheets as usize >= MOST_SHEETS {
+        if usize::from(below.sheets) >= MOST_SHEETS {
             return Err(KioskFault::NoRoom);
         }
         self.session = Some(below.matters);
@@ -102,7 +102,7 @@ impl<R: OpenRack> Kiosk<R> {
             self.slip.change(i, rule.sign);
             return Ok(());
         }
-        if below.rules as usize + self.slip.len() >= MOST_RULES {
+        if usize::from(below.rules) + self.slip.len() >= MOST_RULES {
             return Err(KioskFault::RulesFull);
         }
         self.slip.add(Fact {

@@ -14,8 +14,8 @@ impl<R: OpenRack> Kiosk<R> {
         ensures { result ≡ seated below self.now.session self.now.slip.facts.items }
     {
         self.session == Some(below.matters)
-            && (below.sheets as usize) < MOST_SHEETS
-            && below.rules as usize + self.slip.len() <= MOST_RULES
+            && usize::from(below.sheets) < MOST_SHEETS
+            && usize::from(below.rules) + self.slip.len() <= MOST_RULES
     }
 
     // The kiosk's shape over a rack of this shape.
@@ -51,7 +51,7 @@ impl<R: OpenRack> Rack for Kiosk<R> {
         if !self.seated(below) {
             return None;
         }
-        let fact = self.slip.fact((place - below.rules) as usize)?;
+        let fact = self.slip.fact(usize::from(place - below.rules))?;
         Some(fact.on_sheet(below.sheets))
     }
 

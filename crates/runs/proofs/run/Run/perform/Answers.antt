@@ -1,11 +1,30 @@
-use Rattle.std.proofs.Common.{vec_items, vec_len, sym, ap, arith}
+use Rattle.std.proofs.Common.{vec_items, refl, ap}
 use Rattle.kiosk.specs.declared.call.Call.{Call}
-use Rattle.kiosk.specs.declared.call.Call.TheVariants.{Begin, Lay, Withdraw, Fact}
+use Rattle.kiosk.specs.declared.call.Call.TheVariants.{Begin, Lay, Withdraw, Open, Fact, End}
 use Rattle.kiosk.specs.Standing.{book_of}
 use Rattle.runs.specs.Running.{asks, tally}
-use Rattle.runs.proofs.Sessions.{purse_kept, begin_keeps, lay_keeps, withdraw_keeps, fact_keeps, stock_kept, stock_taken}
+use Rattle.runs.proofs.Sessions.{done_answers, purse_kept, begin_keeps, lay_keeps, withdraw_keeps, fact_keeps, stock_kept, stock_taken}
+use Rattle.runs.proofs.Listings.{listed_answers}
 use Rattle.runs.proofs.run.Run.perform.Goals as goal
 use Rattle.runs.proofs.run.Run.perform.Goals.{in-Begin, in-Lay, in-Withdraw, in-Open, in-Fact, in-End, in-Outcomes}
+
+pub returns-clause-answer : goal.returns-clause-answer
+returns-clause-answer g c =
+    let s = c.args.self in
+    let call = c.args.call in
+    let over = g.O.Order.over c.args.order.now in
+    let b = book_of g.R.OpenRack.state s.kiosk in
+    elim c.match-call.branch [
+      | in-Begin w ↦ rw w.answer-is (done_answers over s.places b _ call Begin w.begin.result w.in-Begin.is refl w.begin.ensures)
+      | in-Lay w ↦ rw w.answer-is (done_answers over s.places b _ call (Lay w.in-Lay.rule) w.lay.result w.in-Lay.is refl w.lay.ensures)
+      | in-Withdraw w ↦ rw w.answer-is (done_answers over s.places b _ call Withdraw w.withdraw.result w.in-Withdraw.is refl w.withdraw.ensures)
+      | in-Open w ↦ rw w.answer-is (done_answers over s.places b _ call Open w.open-opened.result.1 w.in-Open.is refl w.open-opened.ensures.book)
+      | in-Fact w ↦ rw w.answer-is (done_answers over s.places b _ call (Fact w.in-Fact.matter w.in-Fact.sign) w.fact.result w.in-Fact.is refl w.fact.ensures)
+      | in-End w ↦ rw w.answer-is (done_answers over s.places b _ call End w.end-ended.result.1 w.in-End.is refl w.end-ended.ensures.book)
+      | in-Outcomes w ↦
+          let taken = stock_taken s.places (tally (asks call)) s.lists w.take_last.new.self w.take_last.result w.take_last.ensures.items w.take_last.ensures.len (ap (λ (x : Call). tally (asks x)) w.in-Outcomes.is) c.requires.stock in
+          rw w.answer-is (listed_answers over s.places b call (vec_items w.take_last.result) w.listed-answer.result w.in-Outcomes.is taken.0 w.listed-answer.ensures)
+    ]
 
 pub returns-clause-purse : goal.returns-clause-purse
 returns-clause-purse g c =
