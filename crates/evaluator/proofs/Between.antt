@@ -9,7 +9,8 @@ use Rattle.rules.specs.Held.{held}
 use Rattle.rules.specs.Semantics.{Mem, LiteralSet, Overruling, Total, Formed, Outcome, WellFounded}
 use Rattle.rules.proofs.Bitwise.{mem_cases, mem_and, mem_and_left, mem_and_right, mem_or_left, mem_or_right, mem_or_cases, mem_below, rest_mem, rest_not, same_members, below_from_members, not_in_zero}
 use Rattle.rules.proofs.Theory.{outcome_between, step_bounded}
-use Rattle.racks.specs.Meaning.{Meaning}
+use Rattle.rules.specs.declared.rule.Shape.{Shape}
+use Rattle.racks.specs.Meaning.{Meaning, shaped}
 use Rattle.evaluator.proofs.Readiness.{read_as}
 use Rattle.evaluator.specs.declared.finder.Finder.{Finder}
 use Rattle.evaluator.specs.Finding.{From}
@@ -101,5 +102,5 @@ from_start {over} f others total model tabled undecided first last =
     }
 
 -- so has one that begins with what was read of a rack
-pub from_read : {over : Overruling} {f : Finder} (m : Meaning) → f.candidates.matters ≡ m.matters → held f.candidates.table ≡ m.rules → From (held f.candidates.table) over f.candidates.matters f 0 → From m.rules over m.matters f 0
-from_read {over} {f} m e r = read_as (λ P n. From P over n f 0) m e refl r
+pub from_read : {over : Overruling} {f : Finder} (m : Meaning) {s : Shape} → s ≡ shaped m → held f.candidates.table ≡ m.rules → f.candidates.matters ≡ s.matters → From (held f.candidates.table) over f.candidates.matters f 0 → From m.rules over m.matters f 0
+from_read {over} {f} m e r n from = read_as (λ P k. From P over k f 0) m e refl r (subst (λ (k : ℕ). From (held f.candidates.table) over k f 0) n from)

@@ -15,7 +15,7 @@ pub fn outcomes<R: Rack, O: Order>(
 {
     let mut count = 0;
     for m in Finder::new(rack, order) {
-        // Not by `get_mut`: once its borrow is over, a proof knows no element of the list.
+        // The count is the answer. No `get_mut`: once its borrow is over, a proof knows no element of the list.
         if count == list.len() {
             return Err(EvaluatorFault::TooManyOutcomes);
         }

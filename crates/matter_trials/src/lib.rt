@@ -11,6 +11,7 @@ mod tests {
     use laying::pocket::PocketRack;
     use orders::position::Position;
     use rules::record::Record;
+    use rules::rule::Sign;
     use std::test::Fail;
 
     // A rack with one sheet of these rules.
@@ -28,18 +29,21 @@ mod tests {
     fn rule(head: u8, yes: u16, no: u16) -> Record {
         Record {
             head,
-            sign: 1,
+            sign: Sign::Yes.into(),
             yes,
             no,
         }
     }
 
-    const NO_0: Record = Record {
-        head: 0,
-        sign: 0,
-        yes: 0,
-        no: 0,
-    };
+    // "no head"
+    fn no(head: u8) -> Record {
+        Record {
+            head,
+            sign: Sign::No.into(),
+            yes: 0,
+            no: 0,
+        }
+    }
 
     #[test]
     fn either_or(rt: HostRuntime) -> Result<(), Fail> {
@@ -58,7 +62,7 @@ mod tests {
         assert_eq!(rt; reading(&fact, &Position, 1), Ok(Reading::False));
         assert_eq!(rt; ruling(&fact, &Position, 0), Ok(Ruling::Always));
         assert_eq!(rt; ruling(&fact, &Position, 1), Ok(Ruling::Never));
-        let both = sheet(1, &[rule(0, 0, 0), NO_0])?;
+        let both = sheet(1, &[rule(0, 0, 0), no(0)])?;
         assert_eq!(rt; reading(&both, &Position, 0), Ok(Reading::Contradictory));
         assert_eq!(rt; ruling(&both, &Position, 0), Ok(Ruling::NoOutcome));
         Ok(())
@@ -68,11 +72,8 @@ mod tests {
     #[test]
     fn rules_on_many_outcomes(rt: HostRuntime) -> Result<(), Fail> {
         let mut rack = sheet(16, &[rule(15, 0, 0)])?;
-        for pair in 0..7u8 {
-            let (low, high) = (
-                1u16.rotate_left(u32::from(2 * pair)),
-                2u16.rotate_left(u32::from(2 * pair)),
-            );
+        for pair in 0..7 {
+            let (low, high) = (1 << (2 * pair), 2 << (2 * pair));
             rack.lay(rule(2 * pair, 0, high))?;
             rack.lay(rule(2 * pair + 1, 0, low))?;
         }

@@ -1,6 +1,5 @@
-use Rattle.std.proofs.Common.{List, refl, ap, subst}
+use Rattle.std.proofs.Common.{List, refl, subst}
 use Rattle.rules.specs.declared.rule.Rule.{Rule}
-use Rattle.rules.specs.declared.rule.Shape.{Shape}
 use Rattle.rules.specs.Held.{held}
 use Rattle.rules.specs.Semantics.{WellFounded}
 use Rattle.steps.specs.Parts.{Ready}
@@ -10,26 +9,25 @@ use Rattle.evaluator.proofs.finder.Finder.new.Goals as goal
 
 pub settle-requires : goal.settle-requires
 settle-requires g c = (
-  read_ready (g.met.R.Rack.kept c.args.rack.now) (ap (λ (s : Shape). s.matters) c.shape-matters.ensures) c.as_slice.ensures c.read-table.ensures,
+  read_ready (g.met.R.Rack.kept c.args.rack.now) c.shape-matters.ensures c.as_slice.ensures c.read-table.ensures,
   (g.O.Order.over c.args.order.now, record { broad = c.of-overrulers.ensures.broad; narrow = c.of-overrulers.ensures.narrow }),
 )
 
-pub invariant_of-candidates : goal.invariant_of-candidates
-invariant_of-candidates g c =
+pub invariant_of-candidates-clause-ready : goal.invariant_of-candidates-clause-ready
+invariant_of-candidates-clause-ready g c = read_ready (g.met.R.Rack.kept c.args.rack.now) c.shape-matters.ensures refl c.read-table.ensures
+
+pub invariant_of-candidates-clause-below : goal.invariant_of-candidates-clause-below
+invariant_of-candidates-clause-below g c =
     let over = g.O.Order.over c.args.order.now in
-    let ready : Ready c.shape-matters.result.matters (held c.read-table.result) = read_ready (g.met.R.Rack.kept c.args.rack.now) (ap (λ (s : Shape). s.matters) c.shape-matters.ensures) refl c.read-table.ensures in
+    let ready : Ready c.shape-matters.result.matters (held c.read-table.result) = read_ready (g.met.R.Rack.kept c.args.rack.now) c.shape-matters.ensures refl c.read-table.ensures in
     let model = (c.settle.ensures over (record { broad = c.of-overrulers.ensures.broad; narrow = c.of-overrulers.ensures.narrow })).well_founded in
-    record {
-      ready = ready;
-      whole = c.of-overrulers.result.whole;
-      below = tried_below (g.met.O.Order.total c.args.order.now) ready.formed ready.few_matters (subst (λ (P : List Rule). WellFounded P over c.shape-matters.result.matters c.settle.result.literals) c.as_slice.ensures model) c.undecided-undecided.ensures;
-    }
+    tried_below (g.met.O.Order.total c.args.order.now) ready.formed ready.few_matters (subst (λ (P : List Rule). WellFounded P over c.shape-matters.result.matters c.settle.result.literals) c.as_slice.ensures model) c.undecided-undecided.ensures
 
 pub returns : goal.returns
 returns g c =
     let over = g.O.Order.over c.args.order.now in
     let model = (c.settle.ensures over (record { broad = c.of-overrulers.ensures.broad; narrow = c.of-overrulers.ensures.narrow })).well_founded in
-    from_read (g.R.Rack.meaning c.args.rack.now) (ap (λ (s : Shape). s.matters) c.shape-matters.ensures) c.read-table.ensures
+    from_read (g.R.Rack.meaning c.args.rack.now) c.shape-matters.ensures c.read-table.ensures refl
     (from_start _ c.settle.result.literals.1 (g.met.O.Order.total c.args.order.now)
     (subst (λ (P : List Rule). WellFounded P over c.shape-matters.result.matters c.settle.result.literals) c.as_slice.ensures model)
     c.of-overrulers.ensures.broad c.undecided-undecided.ensures refl c.parts.ensures)
