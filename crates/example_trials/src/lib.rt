@@ -9,7 +9,7 @@ mod tests {
     fn says(bytes: &[u8], text: &[u8]) -> bool {
         let mut out = [0; OUTPUT];
         let len = list_file(bytes, &mut out);
-        &out[0..len] == text
+        &out[..len] == text
     }
 
     // {0 if no 1. 1 if no 0. 2 if 1, no 3. no 2.}

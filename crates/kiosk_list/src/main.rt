@@ -7,11 +7,10 @@ use std::io::{Read, Write};
 
 fn main(rt: HostRuntime) -> io::Result<()> {
     let mut input = Vec::new(rt.alloc());
-    let mut source = rt.stdin().take(INPUT as u64);
-    let _ = source.read_to_end(&mut input)?;
+    rt.stdin().take(INPUT as u64).read_to_end(&mut input)?;
     let mut output = [0; OUTPUT];
     let len = list_file(&input, &mut output);
     let mut sink = rt.stdout();
-    sink.write_all(&output[0..len])?;
+    sink.write_all(&output[..len])?;
     sink.flush()
 }

@@ -13,7 +13,7 @@ mod tests {
     fn says(bytes: &[u8], text: &[u8]) -> bool {
         let mut out = [0; OUTPUT];
         let len = list_file(bytes, &mut out);
-        &out[0..len] == text
+        &out[..len] == text
     }
 
     // The file `EITHER` with another byte at a place.

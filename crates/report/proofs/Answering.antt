@@ -1,23 +1,22 @@
 -- From a filled rack and a report on it to what kiosk-list says.
-use Rattle.std.proofs.Common.{◌≡◌, ℕ, ◌+◌, ◌*◌, ◌≤◌, List, ◌++◌, length, take, drop, ap, ◌∙◌, subst, mul-le-mul, arith}
+use Rattle.std.proofs.Common.{◌≡◌, ℕ, ◌+◌, ◌*◌, ◌≤◌, List, ◌++◌, length, take, drop, Some, Err, ap, ◌∙◌, subst, ⊎_elim, mul-le-mul, arith}
 use Rattle.std.proofs.lemmas.List.{length-take-le}
 use Rattle.racks.specs.declared.file.FileRack.{FileRack}
 use Rattle.racks.specs.Filing.{file_meaning, Filled}
 use Rattle.racks.specs.Meaning.{Meaning}
 use Rattle.orders.specs.Overrules.{by_position}
+use Rattle.evaluator.specs.declared.answer.EvaluatorFault.{EvaluatorFault}
 use Rattle.evaluator.specs.Answers.{Overfull}
+use Rattle.evaluator.specs.Faults.{fault_number}
 use Rattle.report.specs.Listings.{refusal, Says, Answers}
 use Rattle.report.specs.Listings.Says.{outcomes, too_many}
-use Rattle.report.specs.Reports.{Told, TooLong}
+use Rattle.report.specs.Reports.{Reported, Told, TooLong}
 use Rattle.report.specs.Text.{text}
-use Rattle.report.specs.Writing.{Puts}
+use Rattle.report.specs.Writing.{Writes}
 use Rattle.report.proofs.Lengths.{length_text, decimal_short}
-use Rattle.report.proofs.Splices.{puts_front}
 
-pub said_refusal : {bytes before after : List ℕ} {j k len : ℕ} → j ≡ k → Says bytes (refusal k) → Puts before 0 (refusal j) after len → Answers bytes before after len
-said_refusal {bytes} {before} {after} {j} {k} {len} e s p =
-    let w = puts_front (subst (λ (i : ℕ). Puts before 0 (refusal i) after len) e p) in
-    record { words = refusal k; says = s; len_is = w.0; fits = w.1; after_is = w.2 }
+pub said_refusal : {bytes before after : List ℕ} {len : ℕ} (k : ℕ) → Says bytes (refusal k) → Writes (refusal k) before after (Some len) → Answers bytes before after len
+said_refusal k says w = record { words = refusal k; says = says; len_is = w.0; fits = w.1; after_is = w.2 }
 
 module _ {bytes : List ℕ} {rack : FileRack} (filled : Filled bytes rack) where
   pub said_report : {old new before after : List ℕ} {len : ℕ} → length new ≡ 1024 → Told (file_meaning rack).rules by_position (file_meaning rack).matters 1 old new before after len → Answers bytes before after len
@@ -55,3 +54,7 @@ module _ {bytes : List ℕ} {rack : FileRack} (filled : Filled bytes rack) where
       let long = ap length c.text_is ∙ length_text 1 n Ms c.model in
       let h = u.longer in
       omega arith
+
+  -- the one refusal of a report for which the buffers are too small
+  pub said_fault : {old new before after : List ℕ} (f : EvaluatorFault) → length new ≡ 1024 → length before ≡ 32768 → Reported (file_meaning rack).rules by_position (file_meaning rack).matters 1 old new before after (Err f) → Says bytes (refusal (fault_number f))
+  said_fault f l k r = ⊎_elim (λ o. rw o.0 (said_too_many l o.1)) (λ o. absurd (never_too_long l k o.1)) r.0

@@ -1,16 +1,10 @@
 -- How long the parts of the text are.
-use Rattle.std.proofs.Common.{◌≡◌, ℕ, ◌+◌, ◌*◌, ◌/◌, ◌^◌, ◌<◌, ◌≤◌, List, [], ◌∷◌, ◌++◌, length, take, decimal, ap, ◌∙◌, mul-le-mul_right, suc-mul, add-mul, arith, lit<}
-use Rattle.std.proofs.lemmas.List.FromFn.{length-map-range_with_len}
-use Rattle.std.proofs.lemmas.Fmt.{decimal_digit, decimal_step, length-decimal-le}
-use Rattle.std.proofs.lemmas.List.{length-append, length_push, length-take-le}
+use Rattle.std.proofs.Common.{◌≡◌, ℕ, ◌+◌, ◌*◌, ◌^◌, ◌<◌, ◌≤◌, List, [], ◌∷◌, ◌++◌, length, take, decimal, ap, ◌∙◌, suc-mul, add-mul, arith, lit<}
+use Rattle.std.proofs.lemmas.List.FromFn.{length-map-range_with_len, take-map-range_with_len}
+use Rattle.std.proofs.lemmas.Fmt.{length-decimal-le}
+use Rattle.std.proofs.lemmas.List.{length-append, length_push}
 use Rattle.rules.specs.Semantics.{LiteralSet}
 use Rattle.report.specs.Text.{digit, letter, cells, line, heading, listing, text}
-
-pub length_digit : (n : ℕ) → n < 10 → length (decimal n) ≡ 1
-length_digit n h = ap length (decimal_digit n h)
-
-pub length_step : (n : ℕ) → 10 ≤ n → n < 2 ^ 64 → length (decimal n) ≡ length (decimal (n / 10)) + 1
-length_step n h l = ap length (decimal_step n h l) ∙ length_push (decimal (n / 10)) _
 
 -- no number of 64 bits has more than twenty digits
 pub decimal_short : (n : ℕ) → n < 2 ^ 64 → length (decimal n) ≤ 20
@@ -52,12 +46,7 @@ length_text code n Ms X =
     let product = add-mul (length Ms) 1 (n + 1) in
     omega arith
 
--- there is room for one more line
-pub listing_room : (n i M : ℕ) (Ms : List ℕ) → i < length Ms → length (listing n (take i Ms)) + length (line (cells (digit M) n)) ≤ length (listing n Ms)
-listing_room n i M Ms h =
-    let one = length_row (digit M) n in
-    let part : length (listing n (take i Ms)) ≡ i * (n + 1) = length_listing n (take i Ms) ∙ ap (λ k. k * (n + 1)) (length-take-le i Ms (omega arith)) in
-    let whole = length_listing n Ms in
-    let product = suc-mul i (n + 1) in
-    let more = mul-le-mul_right (n + 1) h in
-    omega arith
+-- the first n of the characters of all matters
+pub take_cells : (character : ℕ → ℕ) (m n : ℕ) (row : List ℕ) → m ≡ n → row ≡ cells character 16 → n ≤ 16 → take m row ≡ cells character n
+unfolding cells
+take_cells character m n row e r few = rw (e, r) (take-map-range_with_len character 0 16 n few)

@@ -1,4 +1,6 @@
 pub mod Splices
+pub mod Pages
+pub mod Made
 pub mod Lengths
 pub mod Reporting
 pub mod Answering

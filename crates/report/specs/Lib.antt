@@ -1,5 +1,5 @@
 pub mod Text
-pub mod Rows
 pub mod Writing
+pub mod Pages
 pub mod Reports
 pub mod Listings

@@ -1,9 +1,10 @@
 -- What kiosk-list says of the bytes that it is given.
-use Rattle.std.specs.Prelude.{◌≡◌, ℕ, ◌<◌, ◌≤◌, List, ◌++◌, length, drop, codes, decimal}
+use Rattle.std.specs.Prelude.{◌≡◌, ℕ, ◌<◌, ◌≤◌, List, ◌++◌, length, drop, codes, decimal, Ok, Err, Result}
 use Rattle.rules.specs.declared.record.Record.{Record}
 use Rattle.rules.specs.Semantics.{LiteralSet, Lists, WellFounded}
 use Rattle.orders.specs.Overrules.{by_position}
 use Rattle.racks.specs.Packing.{File, Refused, numbered}
+use Rattle.report.specs.declared.listing.RefusalNumber.{RefusalNumber}
 use Rattle.report.specs.Text.{line, text}
 
 -- "refused", a space and the number
@@ -25,3 +26,8 @@ pub record Answers (bytes before after : List ℕ) (len : ℕ) : Type 0 where
   pub len_is : len ≡ length words
   pub fits : len ≤ length before
   pub after_is : after ≡ words ++ drop len before
+
+-- the answer for these bytes is written; or this is the number of their refusal, and the buffer is as it was
+abbrev pub Listed : List ℕ → List ℕ → List ℕ → Result ℕ RefusalNumber → Type 0
+Listed bytes before after (Ok len) = Answers bytes before after len
+Listed bytes before after (Err number) = Says bytes (refusal number.0) × (after ≡ before)

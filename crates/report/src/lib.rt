@@ -2,5 +2,6 @@
 #![tactic(auto)]
 
 pub mod listing;
+mod page;
 pub mod report;
 mod text;

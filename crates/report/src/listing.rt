@@ -1,14 +1,19 @@
-ghost use Rattle.std.specs.Prelude.{◌≡◌, ◌+◌, ◌≤◌, length, take};
-ghost use Rattle.report.specs.Listings.{Answers, refusal};
-ghost use Rattle.report.specs.Writing.{Puts};
+ghost use Rattle.std.specs.Prelude.{◌≡◌, Some, take};
+ghost use Rattle.evaluator.specs.Faults.{fault_number};
+ghost use Rattle.racks.specs.Faults.{file_number};
+ghost use Rattle.report.specs.Listings.{Answers, Listed, refusal};
+ghost use Rattle.report.specs.Writing.{Writes};
 
+use crate::page::Page;
 use crate::report::write_report;
-use crate::text::{put_byte, put_decimal};
+use evaluator::answer::EvaluatorFault;
 use orders::position::Position;
 use racks::file::FileRack;
+use racks::file::fault::FileFault;
 use rules::refusal::Refusal;
 
-// How much of its input kiosk-list looks at, how many outcomes it can list, and how much it can print.
+// How much of its input kiosk-list looks at, how many outcomes it can list, and how much it can print: the buffers are fixed, so that
+// no call can fail for want of memory.
 pub const INPUT: usize = 2048;
 
 pub const PLACES: usize = 1024;
@@ -19,44 +24,49 @@ pub const OUTPUT: usize = 32_768;
 pub fn list_file(input: &[u8], out: &mut [u8; OUTPUT]) -> usize
     ensures { Answers (take 2048 input.now) out.old out.new result }
 {
-    let mut rack = FileRack::new();
-    let mut list = [0; PLACES];
-    if let Err(fault) = rack.fill(looked_at(input)) {
-        return put_refusal(out, fault.number());
-    }
-    match write_report(&rack, &Position, &mut list, out) {
+    match list(&input[..INPUT.min(input.len())], out) {
         Ok(len) => len,
-        Err(fault) => put_refusal(out, fault.number()),
+        Err(RefusalNumber(number)) => put_refusal(out, number),
     }
 }
 
-fn looked_at(input: &[u8]) -> &[u8]
-    ensures { result.now ≡ take 2048 input.now }
-{
-    if input.len() > INPUT {
-        &input[0..INPUT]
-    } else {
-        input
+// The number of a refusal, which is all that is printed of it.
+#[derive(Clone, Copy)]
+struct RefusalNumber(u8);
+
+impl From<FileFault> for RefusalNumber {
+    ghost from_gives = { λ fault refused. refused.0 ≡ file_number fault };
+
+    fn from(fault: FileFault) -> RefusalNumber {
+        RefusalNumber(fault.number())
     }
+}
+
+impl From<EvaluatorFault> for RefusalNumber {
+    ghost from_gives = { λ fault refused. refused.0 ≡ fault_number fault };
+
+    fn from(fault: EvaluatorFault) -> RefusalNumber {
+        RefusalNumber(fault.number())
+    }
+}
+
+// Writes the report on a file.
+fn list(file: &[u8], out: &mut [u8; OUTPUT]) -> Result<usize, RefusalNumber>
+    ensures { Listed file.now out.old out.new result }
+{
+    let mut rack = FileRack::new();
+    let mut places = [0; PLACES];
+    rack.fill(file)?;
+    Ok(write_report(&rack, &Position, &mut places, out)?)
 }
 
 // "refused", a space, the number and the end of the line.
-fn put_refusal(out: &mut [u8], number: u8) -> usize
-    requires { 32 ≤ length out.old }
-    ensures { Puts out.old 0 (refusal number) out.new result }
+fn put_refusal(out: &mut [u8; OUTPUT], number: u8) -> usize
+    ensures { Writes (refusal number) out.old out.new (Some result) }
 {
-    let at = put_word(out, 0, b"refused ");
-    let end = put_decimal(out, at, usize::from(number));
-    put_byte(out, end, b'\n')
-}
-
-fn put_word(out: &mut [u8], start: usize, word: &[u8]) -> usize
-    requires { start + length word.now ≤ length out.old }
-    ensures { Puts out.old start word.now out.new result }
-{
-    let mut at = start;
-    for byte in word {
-        at = put_byte(out, at, *byte);
-    }
-    at
+    let mut page = Page::new(out);
+    page.put(b"refused ");
+    page.put_number(number);
+    page.put(b"\n");
+    page.len()
 }

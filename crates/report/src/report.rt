@@ -1,6 +1,6 @@
 ghost use Rattle.report.specs.Reports.{Reported};
 
-use crate::text::write_text;
+use crate::text::Text;
 use evaluator::answer::EvaluatorFault;
 use evaluator::model::well_founded;
 use evaluator::outcomes::outcomes;
@@ -19,7 +19,11 @@ pub fn write_report<R: Rack, O: Order>(
     let count = outcomes(rack, order, list)?;
     let model = well_founded(rack, order);
     let matters = rack.shape().matters;
-    write_text(O::CODE, matters, &list[0..count], model.literals, out).ok_or(
-        EvaluatorFault::TextTooLong,
-    )
+    let text = Text {
+        code: O::CODE,
+        matters,
+        outcomes: &list[..count],
+        model: model.literals,
+    };
+    text.write(out).ok_or(EvaluatorFault::TextTooLong)
 }

@@ -1,128 +1,89 @@
-ghost use Rattle.std.specs.Prelude.{◌≡◌, ℕ, ◌+◌, ◌<◌, ◌≤◌, [], ◌∷◌, length, decimal};
-ghost use Rattle.report.specs.Rows.{character};
-ghost use Rattle.report.specs.Text.{cells, heading, line, listing, member, reading, text};
-ghost use Rattle.report.specs.Writing.{Puts, Writes};
+ghost use Rattle.std.specs.Prelude.{◌≡◌, ◌≤◌, cond, length};
+ghost use Rattle.report.specs.Pages.{Adds, Fits};
+ghost use Rattle.report.specs.Text.{cells, digit, heading, letter, listing, reading, text};
+ghost use Rattle.report.specs.Writing.{Writes};
 
+use crate::page::Page;
+use itoa::Buffer;
+use rules::matters::MOST_MATTERS;
 use rules::rule::LiteralSet;
+use rules::sets::has;
+use std::array;
 
-// Writes the report to the front of `out` and answers its length, or changes nothing where it does not fit.
-pub(crate) fn write_text(
-    code: u8,
-    matters: u8,
-    outcomes: &[u16],
-    model: LiteralSet,
-    out: &mut [u8],
-) -> Option<usize>
-    requires few { matters ≤ 16 }
-    requires short { length outcomes.now ≤ 65536 }
-    ensures { Writes (text code matters outcomes.now model) out.old out.new result }
-{
-    if out.len() < text_len(code, matters, outcomes) {
-        return None;
-    }
-    let at = put_heading(out, code, outcomes.len());
-    let at = put_outcomes(out, at, outcomes, matters);
-    Some(put_row(out, at, Row::Model(model), matters))
+// What a report says: under the order of this code there are these outcomes and this model, on so many matters.
+#[derive(Drop)]
+pub(crate) struct Text<'a> {
+    pub(crate) code: u8,
+    pub(crate) matters: u8,
+    pub(crate) outcomes: &'a [u16],
+    pub(crate) model: LiteralSet,
+    ghost few: { matters ≤ 16 },
+    ghost short: { length outcomes.now ≤ 65536 },
 }
 
-// The length of the text, which is the same for every model.
-fn text_len(code: u8, matters: u8, outcomes: &[u16]) -> usize
-    requires few { matters ≤ 16 }
-    requires short { length outcomes.now ≤ 65536 }
-    ensures { (X : ℕ × ℕ) → result ≡ length (text code matters outcomes.now X) }
-{
-    let heading_len = decimal_len(usize::from(code)) + 1 + decimal_len(outcomes.len()) + 1;
-    let row_len = usize::from(matters) + 1;
-    heading_len + (outcomes.len() + 1) * row_len
-}
-
-fn decimal_len(mut value: usize) -> usize
-    ensures counted { result ≡ length (decimal value) }
-    ensures short { result ≤ 20 }
-{
-    let mut len = 1;
-    while value >= 10 {
-        value /= 10;
-        len += 1;
-    }
-    len
-}
-
-// The functions below write a piece of the text from a place of `out` on, and answer the place behind it.
-
-fn put_heading(out: &mut [u8], code: u8, count: usize) -> usize
-    requires { length (heading code count) ≤ length out.old }
-    ensures { Puts out.old 0 (heading code count) out.new result }
-{
-    let space = put_decimal(out, 0, usize::from(code));
-    let second = put_byte(out, space, b' ');
-    let end = put_decimal(out, second, count);
-    put_byte(out, end, b'\n')
-}
-
-fn put_outcomes(out: &mut [u8], start: usize, outcomes: &[u16], matters: u8) -> usize
-    requires few { matters ≤ 16 }
-    requires room { start + length (listing matters outcomes.now) ≤ length out.old }
-    ensures { Puts out.old start (listing matters outcomes.now) out.new result }
-{
-    let mut at = start;
-    for outcome in outcomes {
-        at = put_row(out, at, Row::Outcome(*outcome), matters);
-    }
-    at
-}
-
-fn put_row(out: &mut [u8], start: usize, row: Row, matters: u8) -> usize
-    requires few { matters ≤ 16 }
-    requires room { start + length (line (cells (character row) matters)) ≤ length out.old }
-    ensures { Puts out.old start (line (cells (character row) matters)) out.new result }
-{
-    let mut at = start;
-    for matter in 0..matters {
-        at = put_byte(out, at, row.mark(matter));
-    }
-    put_byte(out, at, b'\n')
-}
-
-pub(crate) fn put_decimal(out: &mut [u8], start: usize, value: usize) -> usize
-    requires { start + length (decimal value) ≤ length out.old }
-    ensures { Puts out.old start (decimal value) out.new result }
-{
-    if value < 10 {
-        return put_byte(out, start, b'0' + value as u8);
-    }
-    // The last digit comes last, so the digits before it are written first.
-    let at = put_decimal(out, start, value / 10);
-    put_byte(out, at, b'0' + (value % 10) as u8)
-}
-
-pub(crate) fn put_byte(out: &mut [u8], at: usize, byte: u8) -> usize
-    requires { at < length out.old }
-    ensures { Puts out.old at (byte ∷ []) out.new result }
-{
-    out[at] = byte;
-    at + 1
-}
-
-// What a line shows of the matters.
-#[derive(Clone, Copy)]
-enum Row {
-    // Which matters are in the outcome.
-    Outcome(u16),
-    // Which signs of each matter are in the model.
-    Model(LiteralSet),
-}
-
-impl Row {
-    fn mark(self, matter: u8) -> u8
-        requires { matter < 16 }
-        ensures { result ≡ character self matter }
+impl Text<'_> {
+    // Writes the text to the front of `out` and answers its length, or changes nothing where it does not fit.
+    pub(crate) fn write(&self, out: &mut [u8]) -> Option<usize>
+        ensures { Writes (text self.now.code self.now.matters self.now.outcomes.now self.now.model) out.old out.new result }
     {
-        match self {
-            Row::Outcome(set) => if contains(set, matter) { b'1' } else { b'0' },
-            Row::Model((yes, no)) => letter(contains(yes, matter), contains(no, matter)),
+        if out.len() < self.len() {
+            return None;
+        }
+        let mut page = Page::new(out);
+        self.put_heading(&mut page);
+        self.put_outcomes(&mut page);
+        page.put_line(&letters(self.model)[..usize::from(self.matters)]);
+        Some(page.len())
+    }
+
+    fn len(&self) -> usize
+        ensures { result ≡ length (text self.now.code self.now.matters self.now.outcomes.now self.now.model) }
+    {
+        let code_len = Buffer::new().format(self.code).len();
+        let count_len = Buffer::new().format(self.outcomes.len()).len();
+        let row_len = usize::from(self.matters) + 1;
+        code_len + 1 + count_len + 1 + (self.outcomes.len() + 1) * row_len
+    }
+
+    fn put_heading(&self, page: &mut Page<'_>)
+        requires { Fits page.old (heading self.now.code (length self.now.outcomes.now)) }
+        ensures { Adds page.old (heading self.now.code (length self.now.outcomes.now)) page.new }
+    {
+        page.put_number(self.code);
+        page.put(b" ");
+        page.put_number(self.outcomes.len());
+        page.put(b"\n");
+    }
+
+    fn put_outcomes(&self, page: &mut Page<'_>)
+        requires { Fits page.old (listing self.now.matters self.now.outcomes.now) }
+        ensures { Adds page.old (listing self.now.matters self.now.outcomes.now) page.new }
+    {
+        for outcome in self.outcomes {
+            page.put_line(&digits(*outcome)[..usize::from(self.matters)]);
         }
     }
+}
+
+// The digit of each matter: whether it is in the outcome.
+fn digits(outcome: u16) -> [u8; MOST_MATTERS]
+    ensures { result ≡ cells (digit outcome) 16 }
+{
+    array::from_fn(|matter| digit(has(outcome.into(), matter as u8)))
+}
+
+// The letter of each matter: which of its signs are in the model.
+fn letters(model: LiteralSet) -> [u8; MOST_MATTERS]
+    ensures { result ≡ cells (letter model) 16 }
+{
+    let (yes, no) = model;
+    array::from_fn(|matter| letter(has(yes.into(), matter as u8), has(no.into(), matter as u8)))
+}
+
+fn digit(held: bool) -> u8
+    ensures { result ≡ cond held 49 48 }
+{
+    if held { b'1' } else { b'0' }
 }
 
 fn letter(yes: bool, no: bool) -> u8
@@ -134,11 +95,4 @@ fn letter(yes: bool, no: bool) -> u8
         (false, true) => b'f',
         (true, true) => b'b',
     }
-}
-
-fn contains(set: u16, matter: u8) -> bool
-    requires { matter < 16 }
-    ensures { result ≡ member set matter }
-{
-    (set >> matter) % 2 == 1
 }

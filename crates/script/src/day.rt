@@ -3,7 +3,6 @@ use crate::play::{last_answer, play, report};
 use crate::words::{Said, told};
 use evaluator::matter::{reading, ruling};
 use kiosk::call::Call;
-use kiosk::fault::KioskFault;
 use laying::pocket::PocketRack;
 use orders::position::Position;
 use runs::run::Run;
@@ -74,6 +73,6 @@ impl Day {
         if done.is_ok() {
             self.calls.clear();
         }
-        told(heap, done.map_err(KioskFault::from))
+        told(heap, done)
     }
 }
