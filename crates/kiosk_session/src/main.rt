@@ -10,7 +10,7 @@ const LONGEST: u64 = 1_048_576;
 fn main(rt: HostRuntime) -> anyhow::Result<()> {
     let mut input = Vec::new(rt.alloc());
     let mut source = rt.stdin().take(LONGEST);
-    let _ = source.read_to_end(&mut input)?;
+    source.read_to_end(&mut input)?;
     let text = play_script(rt.alloc(), &input)?;
     let mut sink = rt.stdout();
     sink.write_all(text.as_bytes())?;

@@ -44,25 +44,20 @@ fn full_pocket() -> PocketRack {
 }
 
 fn show<R: Rack>(rt: &HostRuntime, depth: u8, pile: &R, repeats: u32) -> anyhow::Result<()> {
-    let read = timed(rt, pile, repeats, true)?;
-    let shape = timed(rt, pile, repeats, false)?;
+    let read = timed(rt, repeats, || pile.read().len() as u64)?;
+    let shape = timed(rt, repeats, || u64::from(pile.shape().rules))?;
     println!(rt; "depth {depth}: {read} ns to read all rules, {shape} ns for the three numbers")?;
     Ok(())
 }
 
-// Nanoseconds for one reading of all rules, or for one question for the three numbers.
-fn timed<R: Rack>(rt: &HostRuntime, pile: &R, repeats: u32, rules: bool) -> anyhow::Result<u128> {
+// Nanoseconds for one time that a count is asked for.
+fn timed<F: Fn() -> u64>(rt: &HostRuntime, repeats: u32, ask: F) -> anyhow::Result<u128>
+    requires { F.IsAlwaysCallable ask }
+{
     let start = Instant::now(rt)?;
-    let mut seen = 0u64;
-    for _ in 0..repeats {
-        let count = if rules {
-            pile.read().len() as u64
-        } else {
-            u64::from(pile.shape().rules)
-        };
-        seen = seen.wrapping_add(count);
-    }
+    let seen = (0..repeats).fold(0u64, |sum, _| sum.wrapping_add(ask()));
     let nanos = start.elapsed(rt)?.as_nanos();
+    // The sum is looked at, so that no question is left out.
     if seen == u64::MAX {
         println!(rt; "{seen} rules")?;
     }

@@ -1,8 +1,10 @@
 use crate::helping::{NO_0, YES_0};
+use evaluator::answer::EvaluatorFault;
 use evaluator::outcomes::outcomes;
 use laying::fault::RackFault;
 use laying::open_rack::OpenRack;
 use laying::pocket::PocketRack;
+use orders::fault::OrderFault;
 use orders::graded::Graded;
 use orders::graded_position::GradedPosition;
 use orders::grades::Grades;
@@ -21,71 +23,39 @@ fn contradiction() -> Result<PocketRack, RackFault> {
     Ok(rack)
 }
 
-fn graded(first: u8, second: u8) -> Grades {
+fn graded(first: u8, second: u8) -> Result<Grades, OrderFault> {
     let mut grades = Grades::new();
-    let _ = grades.set(&[first, second]);
-    grades
+    grades.set(&[first, second])?;
+    Ok(grades)
 }
 
-// How many outcomes there are, and the first; 9 where there is none.
-fn listed<R: Rack, O: Order>(rack: &R, order: &O) -> (usize, u16) {
+// How many outcomes there are, and the first.
+fn listed<R: Rack, O: Order>(rack: &R, order: &O) -> Result<(usize, Option<u16>), EvaluatorFault> {
     let mut list = [9; 2];
-    match outcomes(rack, order, &mut list) {
-        Ok(count) => (count, list[0]),
-        Err(_) => (3, list[0]),
-    }
+    let count = outcomes(rack, order, &mut list)?;
+    Ok((count, list.iter().take(count).copied().next()))
 }
 
 #[test]
 fn later_sheet_overrules(rt: HostRuntime) -> Result<(), Fail> {
-    assert_eq!(rt; listed(&contradiction()?, &Position), (1, 0));
+    assert_eq!(rt; listed(&contradiction()?, &Position), Ok((1, Some(0))));
     Ok(())
 }
 
 #[test]
 fn higher_grade_overrules(rt: HostRuntime) -> Result<(), Fail> {
     let rack = contradiction()?;
-    assert_eq!(rt;
-        listed(
-            &rack,
-            &Graded {
-                grades: graded(2, 1),
-            },
-        ),
-        (1, 1)
-    );
-    assert_eq!(rt;
-        listed(
-            &rack,
-            &GradedPosition {
-                grades: graded(2, 1),
-            },
-        ),
-        (1, 1)
-    );
+    let grades = graded(2, 1)?;
+    assert_eq!(rt; listed(&rack, &Graded { grades }), Ok((1, Some(1))));
+    assert_eq!(rt; listed(&rack, &GradedPosition { grades }), Ok((1, Some(1))));
     Ok(())
 }
 
 #[test]
 fn equal_grades(rt: HostRuntime) -> Result<(), Fail> {
     let rack = contradiction()?;
-    assert_eq!(rt;
-        listed(
-            &rack,
-            &Graded {
-                grades: graded(1, 1),
-            },
-        ),
-        (0, 9)
-    );
-    assert_eq!(rt;
-        listed(
-            &rack,
-            &GradedPosition {
-                grades: graded(1, 1),
-            },
-        ),
-        (1, 0)
-    );
+    let grades = graded(1, 1)?;
+    assert_eq!(rt; listed(&rack, &Graded { grades }), Ok((0, None)));
+    assert_eq!(rt; listed(&rack, &GradedPosition { grades }), Ok((1, Some(0))));
     Ok(())
 }

@@ -1,7 +1,8 @@
 use laying::fault::RackFault;
-use laying::open_rack::OpenRack;
 use racks::file::FileRack;
+use racks::file::fault::FileFault;
 use rules::record::Record;
+use rules::refusal::Refusal;
 
 // The facts "matter 0" and "not matter 0".
 pub const YES_0: Record = Record {
@@ -26,35 +27,14 @@ pub const BAD: Record = Record {
     no: 0,
 };
 
-// The number of a refusal, and 0 for none.
-pub fn number(answer: Result<(), RackFault>) -> u8 {
-    match answer {
-        Ok(()) => 0,
-        Err(fault) => fault.number(),
-    }
-}
-
-// Begins so many sheets, and says how the last call went.
-pub fn begin_all<R: OpenRack>(rack: &mut R, times: u8) -> u8 {
-    let mut last = 0;
-    for _ in 0..times {
-        last = number(rack.begin());
-    }
-    last
-}
-
-// Lays a record so many times, and says how the last call went.
-pub fn lay_all<R: OpenRack>(rack: &mut R, record: Record, times: u8) -> u8 {
-    let mut last = 0;
-    for _ in 0..times {
-        last = number(rack.lay(record));
-    }
-    last
+// How a call went; a refusal by its number.
+pub fn numbered(answer: Result<(), RackFault>) -> Result<(), u8> {
+    answer.map_err(|fault| fault.number())
 }
 
 // The rack of a packed file.
-pub fn filed(bytes: &[u8]) -> FileRack {
+pub fn filed(bytes: &[u8]) -> Result<FileRack, FileFault> {
     let mut rack = FileRack::new();
-    let _ = rack.fill(bytes);
-    rack
+    rack.fill(bytes)?;
+    Ok(rack)
 }

@@ -1,26 +1,27 @@
-use crate::helping::{BAD, NO_0, YES_0, begin_all, filed, lay_all, number};
+use crate::helping::{BAD, NO_0, YES_0, filed, numbered};
 use layers::amended::Amended;
 use layers::withheld::Withheld;
 use laying::open_rack::OpenRack;
 use laying::pocket::PocketRack;
 use racks::rack::Rack;
 use rules::rule::{Rule, Shape, Sign};
+use std::test::Fail;
 
 #[test]
 fn pocket_rack(rt: HostRuntime) {
     let mut rack = PocketRack::new();
-    assert_eq!(rt; number(rack.set_up(0)), 3);
-    assert_eq!(rt; number(rack.set_up(17)), 3);
-    assert_eq!(rt; number(rack.set_up(2)), 0);
-    assert_eq!(rt; number(rack.withdraw()), 12);
-    assert_eq!(rt; number(rack.lay(BAD)), 12);
-    assert_eq!(rt; number(rack.begin()), 0);
-    assert_eq!(rt; number(rack.lay(BAD)), 13);
-    assert_eq!(rt; lay_all(&mut rack, YES_0, 64), 0);
-    assert_eq!(rt; number(rack.lay(BAD)), 13);
-    assert_eq!(rt; number(rack.lay(YES_0)), 14);
-    assert_eq!(rt; begin_all(&mut rack, 31), 0);
-    assert_eq!(rt; number(rack.begin()), 11);
+    assert_eq!(rt; numbered(rack.set_up(0)), Err(3));
+    assert_eq!(rt; numbered(rack.set_up(17)), Err(3));
+    assert_eq!(rt; numbered(rack.set_up(2)), Ok(()));
+    assert_eq!(rt; numbered(rack.withdraw()), Err(12));
+    assert_eq!(rt; numbered(rack.lay(BAD)), Err(12));
+    assert_eq!(rt; numbered(rack.begin()), Ok(()));
+    assert_eq!(rt; numbered(rack.lay(BAD)), Err(13));
+    assert_eq!(rt; (0..64).try_for_each(|_| numbered(rack.lay(YES_0))), Ok(()));
+    assert_eq!(rt; numbered(rack.lay(BAD)), Err(13));
+    assert_eq!(rt; numbered(rack.lay(YES_0)), Err(14));
+    assert_eq!(rt; (0..31).try_for_each(|_| numbered(rack.begin())), Ok(()));
+    assert_eq!(rt; numbered(rack.begin()), Err(11));
     assert_eq!(rt;
         rack.shape(),
         Shape {
@@ -29,7 +30,7 @@ fn pocket_rack(rt: HostRuntime) {
             rules: 64,
         }
     );
-    assert_eq!(rt; number(rack.withdraw()), 0);
+    assert_eq!(rt; numbered(rack.withdraw()), Ok(()));
     assert_eq!(rt;
         rack.shape(),
         Shape {
@@ -44,10 +45,10 @@ fn pocket_rack(rt: HostRuntime) {
 const FILE: [u8; 11] = [1, 2, 1, 0, 6, 1, 1, 0, 0, 0, 0];
 
 #[test]
-fn pile_of_three_layers(rt: HostRuntime) {
-    let mut lower = Amended::new(filed(&FILE));
-    assert_eq!(rt; number(lower.begin()), 0);
-    assert_eq!(rt; number(lower.lay(NO_0)), 0);
+fn pile_of_three_layers(rt: HostRuntime) -> Result<(), Fail> {
+    let mut lower = Amended::new(filed(&FILE)?);
+    assert_eq!(rt; numbered(lower.begin()), Ok(()));
+    assert_eq!(rt; numbered(lower.lay(NO_0)), Ok(()));
     let mut pile = Amended::new(Withheld::new(lower, 0));
     assert_eq!(rt;
         pile.shape(),
@@ -57,15 +58,15 @@ fn pile_of_three_layers(rt: HostRuntime) {
             rules: 1,
         }
     );
-    assert_eq!(rt; number(pile.withdraw()), 12);
-    assert_eq!(rt; number(pile.lay(BAD)), 12);
-    assert_eq!(rt; number(pile.begin()), 0);
-    assert_eq!(rt; number(pile.lay(BAD)), 13);
-    assert_eq!(rt; lay_all(&mut pile, YES_0, 32), 0);
-    assert_eq!(rt; number(pile.lay(BAD)), 13);
-    assert_eq!(rt; number(pile.lay(YES_0)), 14);
-    assert_eq!(rt; begin_all(&mut pile, 29), 0);
-    assert_eq!(rt; number(pile.begin()), 11);
+    assert_eq!(rt; numbered(pile.withdraw()), Err(12));
+    assert_eq!(rt; numbered(pile.lay(BAD)), Err(12));
+    assert_eq!(rt; numbered(pile.begin()), Ok(()));
+    assert_eq!(rt; numbered(pile.lay(BAD)), Err(13));
+    assert_eq!(rt; (0..32).try_for_each(|_| numbered(pile.lay(YES_0))), Ok(()));
+    assert_eq!(rt; numbered(pile.lay(BAD)), Err(13));
+    assert_eq!(rt; numbered(pile.lay(YES_0)), Err(14));
+    assert_eq!(rt; (0..29).try_for_each(|_| numbered(pile.begin())), Ok(()));
+    assert_eq!(rt; numbered(pile.begin()), Err(11));
     assert_eq!(rt;
         pile.shape(),
         Shape {
@@ -96,4 +97,5 @@ fn pile_of_three_layers(rt: HostRuntime) {
         })
     );
     assert_eq!(rt; pile.rule(33), None);
+    Ok(())
 }

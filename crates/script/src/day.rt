@@ -1,10 +1,12 @@
-use crate::line::{Line, parse};
-use crate::play::{Wanted, play};
-use crate::words;
+use crate::line::{Line, read};
+use crate::play::{last_answer, play, report};
+use crate::words::{Said, told};
+use evaluator::matter::{reading, ruling};
 use kiosk::call::Call;
 use laying::pocket::PocketRack;
+use orders::position::Position;
+use runs::run::Run;
 use std::alloc::{AllocError, Global};
-use std::str::from_utf8;
 
 // A kiosk's day so far: the pocket rack that it was last set up on, and the calls since.
 #[derive(Drop)]
@@ -20,65 +22,57 @@ pub fn play_script(heap: Global, script: &[u8]) -> Result<String, AllocError> {
         calls: Vec::new(heap),
     };
     let mut text = String::new(heap);
-    let mut start = 0;
-    let mut number = 0u32;
-    for (i, byte) in script.iter().enumerate() {
-        if *byte == b'\n' {
-            number = number.saturating_add(1);
-            let said = day.take(heap, number, &script[start..i])?;
-            text.push_str(said.as_str())?;
-            start = i + 1;
+    for (number, line) in (1usize..).zip(script.split(|byte| *byte == b'\n')) {
+        match read(line) {
+            Ok(Line::Nothing) => (),
+            Ok(asked) => {
+                let said = day.take(heap, asked)?;
+                let name = Said(asked);
+                writeln!(text, "line {number}: {name}: {said}")?;
+            }
+            Err(help) => writeln!(text, "line {number}: cannot be read: {help}")?,
         }
     }
-    let said = day.take(heap, number.saturating_add(1), &script[start..])?;
-    text.push_str(said.as_str())?;
     Ok(text)
 }
 
 impl Day {
-    // Takes a line, and says what it did.
-    fn take(&mut self, heap: Global, number: u32, line: &[u8]) -> Result<String, AllocError> {
-        let Ok(line) = from_utf8(line) else {
-            return format!(in heap; "line {number}: cannot be read: it is no text\n");
-        };
-        match parse(line) {
-            Ok(Line::Nothing) => Ok(String::new(heap)),
-            Ok(Line::SetUp(matters)) => self.set_up(heap, number, matters),
-            Ok(Line::Make(call)) => self.make(heap, number, call),
-            Ok(Line::Report) => self.tell(heap, number, "report", Wanted::Report),
-            Ok(Line::Reading(a)) => self.tell(heap, number, "reading", Wanted::Reading(a)),
-            Ok(Line::Ruling(a)) => self.tell(heap, number, "ruling", Wanted::Ruling(a)),
-            Err(help) => format!(in heap; "line {number}: cannot be read: {help}\n"),
+    // Does what a line asks for, and says how it went.
+    fn take(&mut self, heap: Global, line: Line) -> Result<String, AllocError> {
+        match line {
+            Line::Nothing => Ok(String::new(heap)),
+            Line::SetUp(matters) => self.set_up(heap, matters),
+            Line::Make(call) => {
+                self.calls.push(call)?;
+                self.ask(heap, |run| last_answer(heap, run))
+            }
+            Line::Report => self.ask(heap, |run| report(heap, run)),
+            Line::Reading(matter) => self.ask(heap, |run| {
+                told(heap, reading(&run.kiosk, &Position, matter))
+            }),
+            Line::Ruling(matter) => self.ask(heap, |run| {
+                told(heap, ruling(&run.kiosk, &Position, matter))
+            }),
         }
+    }
+
+    // Plays the day again, and says of the run what is wanted.
+    fn ask<F: FnOnce(&Run<PocketRack>) -> Result<String, AllocError>>(
+        &self,
+        heap: Global,
+        say: F,
+    ) -> Result<String, AllocError>
+        requires { F.IsAlwaysCallable say }
+    {
+        play(heap, self.rack, &self.calls, say)
     }
 
     // A new kiosk on an empty rack; a refusal keeps the old one.
-    fn set_up(&mut self, heap: Global, number: u32, matters: u8) -> Result<String, AllocError> {
-        match self.rack.set_up(matters) {
-            Ok(()) => {
-                self.calls.clear();
-                format!(in heap; "line {number}: set up: done\n")
-            }
-            Err(fault) => {
-                let said = words::refusal(heap, fault.number(), fault.layer())?;
-                format!(in heap; "line {number}: set up: {said}\n")
-            }
+    fn set_up(&mut self, heap: Global, matters: u8) -> Result<String, AllocError> {
+        let done = self.rack.set_up(matters);
+        if done.is_ok() {
+            self.calls.clear();
         }
-    }
-
-    fn make(&mut self, heap: Global, number: u32, call: Call) -> Result<String, AllocError> {
-        self.calls.push(call)?;
-        self.tell(heap, number, words::call_name(call), Wanted::LastAnswer)
-    }
-
-    fn tell(
-        &self,
-        heap: Global,
-        number: u32,
-        name: &str,
-        wanted: Wanted,
-    ) -> Result<String, AllocError> {
-        let said = play(heap, self.rack, self.calls.as_slice(), wanted)?;
-        format!(in heap; "line {number}: {name}: {said}\n")
+        told(heap, done)
     }
 }

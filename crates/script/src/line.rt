@@ -1,8 +1,16 @@
+ghost use Rattle.std.specs.Prelude.{◌≡◌, ◌==◌, ◌<◌, false, None, Ok, Err, IfSome};
+ghost use Rattle.std.specs.List.{before_first, after_first};
+ghost use Rattle.script.specs.Lines.{word, argument, alone, takes_argument};
+ghost use Rattle.script.specs.declared.line.Unreadable.TheVariants.{NoSuchCall};
+
 use kiosk::call::Call;
 use rules::record::Record;
+use rules::rule::{LiteralSet, Sign};
+use std::str::from_utf8;
+use thiserror::Error;
 
 // What a line of a script asks for.
-#[derive(Clone, Copy)]
+#[derive(Clone, Copy, PartialEq, Eq, Debug)]
 pub enum Line {
     Nothing,
     SetUp(u8),
@@ -12,107 +20,137 @@ pub enum Line {
     Ruling(u8),
 }
 
-// Reads a line; the error says what to write instead. '#' starts a comment.
-pub fn parse(line: &str) -> Result<Line, &'static str> {
-    let line = match line.split_once('#') {
-        Some((before, _)) => before.trim(),
-        None => line.trim(),
-    };
-    let (word, rest) = match line.split_once(' ') {
-        Some((word, rest)) => (word, rest.trim()),
-        None => (line, ""),
-    };
+// Why a line cannot be read; the message says what to write instead.
+#[derive(Clone, Copy, PartialEq, Eq, Debug, Error)]
+pub enum Unreadable {
+    #[error("it is no text")]
+    NoText,
+    #[error("write set up, begin, lay, withdraw, open, fact, end, outcomes, report, reading or ruling")]
+    NoSuchCall,
+    #[error("write the number of matters, as in: set up 3")]
+    NoMatters,
+    #[error("a matter is a number from 0 to 255")]
+    NoMatter,
+    #[error("a body can name the matters 0 to 15")]
+    BeyondBody,
+}
+
+// Reads a line as it stands in a script.
+pub(crate) fn read(line: &[u8]) -> Result<Line, Unreadable> {
+    parse(from_utf8(line).map_err(|_| Unreadable::NoText)?)
+}
+
+// Reads a line of text. An `impl FromStr` would be a second name for the same, since callers have this one.
+pub fn parse(line: &str) -> Result<Line, Unreadable>
+    ensures alone { IfSome (alone (word line.now)) (λ l. result ≡ Ok l) }
+    ensures unknown { alone (word line.now) ≡ None → takes_argument (word line.now) ≡ false → result ≡ Err NoSuchCall }
+{
+    let (word, rest) = cut(line);
+    match parse_alone(word) {
+        Some(line) => Ok(line),
+        None => parse_with(word, rest),
+    }
+}
+
+// The word that a line begins with, and what follows. '#' starts a comment.
+fn cut(line: &str) -> (&str, &str)
+    ensures word { result.0.now ≡ word line.now }
+    ensures rest { result.1.now ≡ argument line.now }
+{
+    let (line, _) = around(line, '#');
+    let (word, rest) = around(line.trim(), ' ');
+    (word, rest.trim())
+}
+
+// What stands before the first such character and after it; without one, the whole text and nothing.
+fn around(text: &str, mark: char) -> (&str, &str)
+    requires { mark < 128 }
+    ensures before { result.0.now ≡ before_first (λ b. b == mark) text.now }
+    ensures after { result.1.now ≡ after_first (λ b. b == mark) text.now }
+{
+    text.split_once(mark).unwrap_or((text, ""))
+}
+
+// Reads a word that stands without an argument.
+fn parse_alone(word: &str) -> Option<Line>
+    ensures { result ≡ alone word.now }
+{
     match word {
-        "" => Ok(Line::Nothing),
-        "begin" => Ok(Line::Make(Call::Begin)),
-        "withdraw" => Ok(Line::Make(Call::Withdraw)),
-        "open" => Ok(Line::Make(Call::Open)),
-        "end" => Ok(Line::Make(Call::End)),
-        "outcomes" => Ok(Line::Make(Call::Outcomes)),
-        "report" => Ok(Line::Report),
-        _ => parse_with(word, rest),
+        "" => Some(Line::Nothing),
+        "begin" => Some(Line::Make(Call::Begin)),
+        "withdraw" => Some(Line::Make(Call::Withdraw)),
+        "open" => Some(Line::Make(Call::Open)),
+        "end" => Some(Line::Make(Call::End)),
+        "outcomes" => Some(Line::Make(Call::Outcomes)),
+        "report" => Some(Line::Report),
+        _ => None,
     }
 }
 
 // Reads a line with an argument.
-fn parse_with(word: &str, rest: &str) -> Result<Line, &'static str> {
+fn parse_with(word: &str, rest: &str) -> Result<Line, Unreadable>
+    ensures { takes_argument word.now ≡ false → result ≡ Err NoSuchCall }
+{
     match word {
         "set" => set_up(rest),
         "lay" => Ok(Line::Make(Call::Lay(rule(rest)?))),
         "fact" => fact(rest),
         "reading" => Ok(Line::Reading(number(rest)?)),
         "ruling" => Ok(Line::Ruling(number(rest)?)),
-        _ => Err(
-            "write set up, begin, lay, withdraw, open, fact, end, outcomes, report, reading or ruling",
-        ),
+        _ => Err(Unreadable::NoSuchCall),
     }
 }
 
-fn set_up(rest: &str) -> Result<Line, &'static str> {
-    match rest.strip_prefix("up ") {
-        Some(matters) => Ok(Line::SetUp(number(matters)?)),
-        None => Err("write the number of matters, as in: set up 3"),
-    }
+fn set_up(rest: &str) -> Result<Line, Unreadable> {
+    let matters = rest.strip_prefix("up ").ok_or(Unreadable::NoMatters)?;
+    Ok(Line::SetUp(number(matters)?))
 }
 
-fn fact(rest: &str) -> Result<Line, &'static str> {
+fn fact(rest: &str) -> Result<Line, Unreadable> {
     let (sign, matter) = literal(rest)?;
-    Ok(Line::Make(Call::Fact(matter, sign)))
+    Ok(Line::Make(Call::Fact(matter, sign.into())))
 }
 
-fn number(text: &str) -> Result<u8, &'static str> {
-    match text.trim().parse::<u8>() {
-        Ok(number) => Ok(number),
-        Err(_) => Err("a matter is a number from 0 to 255"),
-    }
+fn number(text: &str) -> Result<u8, Unreadable> {
+    text.trim().parse().map_err(|_| Unreadable::NoMatter)
 }
 
-// "3" or "no 3": the sign, 1 or 0, and the matter.
-fn literal(text: &str) -> Result<(u8, u8), &'static str> {
-    match text.trim().strip_prefix("no ") {
-        Some(matter) => Ok((0, number(matter)?)),
-        None => Ok((1, number(text)?)),
+// "3" or "no 3".
+fn literal(text: &str) -> Result<(Sign, u8), Unreadable> {
+    let text = text.trim();
+    match text.strip_prefix("no ") {
+        Some(matter) => Ok((Sign::No, number(matter)?)),
+        None => Ok((Sign::Yes, number(text)?)),
     }
 }
 
 // "0 if 1, no 2" or "no 3.", with a full stop or without.
-fn rule(text: &str) -> Result<Record, &'static str> {
-    let text = match text.strip_suffix('.') {
-        Some(before) => before,
-        None => text,
-    };
-    let (head, body) = match text.split_once(" if ") {
-        Some((head, body)) => (head, body),
-        None => (text, ""),
-    };
+fn rule(text: &str) -> Result<Record, Unreadable> {
+    let text = text.strip_suffix('.').unwrap_or(text);
+    let (head, body) = text.split_once(" if ").unwrap_or((text, ""));
     let (sign, head) = literal(head)?;
-    let (yes, no) = sets(body)?;
+    let (yes, no) = literals(body)?;
     Ok(Record {
         head,
-        sign,
+        sign: sign.into(),
         yes,
         no,
     })
 }
 
-// The yes set and the no set of a body.
-fn sets(body: &str) -> Result<(u16, u16), &'static str> {
-    let mut yes = 0;
-    let mut no = 0;
+// The literals of a body; an empty one has none.
+fn literals(body: &str) -> Result<LiteralSet, Unreadable> {
     if body.is_empty() {
-        return Ok((yes, no));
+        return Ok((0, 0));
     }
-    for part in body.split(',') {
+    body.split(',').try_fold((0, 0), |(yes, no), part| {
         let (sign, matter) = literal(part)?;
-        if matter > 15 {
-            return Err("a body can name the matters 0 to 15");
+        let bit = 1u16
+            .checked_shl(matter.into())
+            .ok_or(Unreadable::BeyondBody)?;
+        match sign {
+            Sign::Yes => Ok((yes | bit, no)),
+            Sign::No => Ok((yes, no | bit)),
         }
-        let bit = 1u16 << matter;
-        if sign == 1 {
-            yes |= bit;
-        } else {
-            no |= bit;
-        }
-    }
-    Ok((yes, no))
+    })
 }

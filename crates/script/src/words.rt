@@ -1,101 +1,98 @@
-use evaluator::answer::{EvaluatorFault, Reading, Ruling};
+use crate::line::Line;
+use evaluator::answer::{Reading, Ruling};
 use kiosk::call::Call;
-use rules::refusal::Layer;
+use rules::refusal::Refusal;
 use runs::run::Answer;
 use std::alloc::{AllocError, Global};
+use std::fmt;
 
-pub fn call_name(call: Call) -> &'static str {
-    match call {
-        Call::Begin => "begin",
-        Call::Lay(_) => "lay",
-        Call::Withdraw => "withdraw",
-        Call::Open => "open",
-        Call::Fact(_, _) => "fact",
-        Call::End => "end",
-        Call::Outcomes => "outcomes",
+// A value in the words of a script.
+#[derive(Drop)]
+pub struct Said<T>(pub T);
+
+// What a line asks for, by the word that it begins with.
+impl fmt::Display for Said<Line> {
+    fn fmt<W: fmt::Write>(&self, f: &mut fmt::Formatter<W>) -> fmt::Result {
+        f.write_str(match self.0 {
+            Line::Nothing => "",
+            Line::SetUp(_) => "set up",
+            Line::Make(Call::Begin) => "begin",
+            Line::Make(Call::Lay(_)) => "lay",
+            Line::Make(Call::Withdraw) => "withdraw",
+            Line::Make(Call::Open) => "open",
+            Line::Make(Call::Fact(_, _)) => "fact",
+            Line::Make(Call::End) => "end",
+            Line::Make(Call::Outcomes) => "outcomes",
+            Line::Report => "report",
+            Line::Reading(_) => "reading",
+            Line::Ruling(_) => "ruling",
+        })
     }
 }
 
-fn layer_name(layer: Layer) -> &'static str {
-    match layer {
-        Layer::File => "file",
-        Layer::Order => "order",
-        Layer::Rack => "rack",
-        Layer::Kiosk => "kiosk",
-        Layer::Evaluator => "evaluator",
+// A call that answers no more than that it was made.
+impl fmt::Display for Said<()> {
+    fn fmt<W: fmt::Write>(&self, f: &mut fmt::Formatter<W>) -> fmt::Result {
+        f.write_str("done")
     }
 }
 
-// "refused", the number and the layer.
-pub fn refusal(heap: Global, number: u8, layer: Layer) -> Result<String, AllocError> {
-    let name = layer_name(layer);
-    format!(in heap; "refused {number}, {name}")
+// How many outcomes there are, and each as a number.
+impl fmt::Display for Said<&[u16]> {
+    fn fmt<W: fmt::Write>(&self, f: &mut fmt::Formatter<W>) -> fmt::Result {
+        let count = self.0.len();
+        if count == 0 {
+            return f.write_str("none");
+        }
+        write!(f, "{count} in all,")?;
+        for outcome in self.0 {
+            write!(f, " {outcome}")?;
+        }
+        Ok(())
+    }
+}
+
+impl fmt::Display for Said<Reading> {
+    fn fmt<W: fmt::Write>(&self, f: &mut fmt::Formatter<W>) -> fmt::Result {
+        write!(f, "{}, {}", self.0.number(), self.0)
+    }
+}
+
+impl fmt::Display for Said<Ruling> {
+    fn fmt<W: fmt::Write>(&self, f: &mut fmt::Formatter<W>) -> fmt::Result {
+        write!(f, "{}, {}", self.0.number(), self.0)
+    }
+}
+
+// What was answered, or the refusal.
+pub fn told<T: Drop, E: Refusal>(heap: Global, answer: Result<T, E>) -> Result<String, AllocError>
+where
+    Said<T>: fmt::Display,
+{
+    match answer {
+        Ok(value) => Said(value).to_string(heap),
+        Err(fault) => refused(heap, fault),
+    }
+}
+
+pub fn refused<E: Refusal>(heap: Global, fault: E) -> Result<String, AllocError> {
+    format!(in heap; "refused {}, {}", fault.number(), fault.layer())
 }
 
 // What a call answered.
 pub fn answer(heap: Global, answer: &Answer) -> Result<String, AllocError> {
     match answer {
-        Answer::Done(Ok(())) => String::from_str(heap, "done"),
-        Answer::Done(Err(fault)) => refusal(heap, fault.number(), fault.layer()),
-        Answer::Listed(Ok(count), list) => outcomes(heap, *count, list),
-        Answer::Listed(Err(fault), _) => refusal(heap, fault.number(), fault.layer()),
-    }
-}
-
-// How many outcomes there are, and each as a number.
-fn outcomes(heap: Global, count: usize, list: &[u16]) -> Result<String, AllocError> {
-    if count == 0 {
-        return String::from_str(heap, "none");
-    }
-    let mut text = format!(in heap; "{count} in all,")?;
-    for outcome in list.iter().take(count) {
-        let next = format!(in heap; " {outcome}")?;
-        text.push_str(next.as_str())?;
-    }
-    Ok(text)
-}
-
-// A report comes on lines of its own.
-pub fn report(
-    heap: Global,
-    told: Result<usize, EvaluatorFault>,
-    bytes: &[u8],
-) -> Result<String, AllocError> {
-    match told {
-        Ok(len) => lines(heap, bytes, len),
-        Err(fault) => refusal(heap, fault.number(), fault.layer()),
-    }
-}
-
-// The text without its last end of line, each line set in.
-fn lines(heap: Global, bytes: &[u8], len: usize) -> Result<String, AllocError> {
-    let mut text = String::from_str(heap, "\n    ")?;
-    for byte in bytes.iter().take(len.saturating_sub(1)) {
-        if *byte == b'\n' {
-            text.push_str("\n    ")?;
-        } else {
-            text.push(char::from(*byte))?;
+        Answer::Done(done) => told(heap, *done),
+        Answer::Listed(counted, list) => {
+            let list = list.as_slice();
+            told(heap, counted.map(|count| &list[..count.min(list.len())]))
         }
     }
-    Ok(text)
 }
 
-pub fn reading(heap: Global, read: Result<Reading, EvaluatorFault>) -> Result<String, AllocError> {
-    match read {
-        Ok(Reading::Undefined) => String::from_str(heap, "0, undefined"),
-        Ok(Reading::True) => String::from_str(heap, "1, true"),
-        Ok(Reading::False) => String::from_str(heap, "2, false"),
-        Ok(Reading::Contradictory) => String::from_str(heap, "3, both"),
-        Err(fault) => refusal(heap, fault.number(), fault.layer()),
-    }
-}
-
-pub fn ruling(heap: Global, ruled: Result<Ruling, EvaluatorFault>) -> Result<String, AllocError> {
-    match ruled {
-        Ok(Ruling::Always) => String::from_str(heap, "1, in every outcome"),
-        Ok(Ruling::Never) => String::from_str(heap, "2, in no outcome"),
-        Ok(Ruling::Varies) => String::from_str(heap, "3, in some outcomes"),
-        Ok(Ruling::NoOutcome) => String::from_str(heap, "4, there is no outcome"),
-        Err(fault) => refusal(heap, fault.number(), fault.layer()),
-    }
+// The lines of a report, each set in below what is said.
+pub fn report(heap: Global, bytes: &[u8]) -> Result<String, AllocError> {
+    let text = String::from_utf8_lossy(heap, bytes)?;
+    let lines = text.trim_end().replace(heap, "\n", "\n    ")?;
+    format!(in heap; "\n    {lines}")
 }
