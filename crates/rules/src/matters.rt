@@ -1,5 +1,4 @@
-ghost use Rattle.std.specs.Prelude.{◌≡◌, Decides};
-ghost use Rattle.rules.specs.Semantics.{Mem};
+ghost use Rattle.std.specs.Prelude.{◌≡◌};
 ghost use Rattle.rules.specs.Records.{allowed};
 
 // The most matters that a rack may have: a set has a bit for each.
@@ -10,11 +9,4 @@ pub fn may_have(matters: u8) -> bool
     ensures { result ≡ allowed matters }
 {
     0 < matters && matters as usize <= MOST_MATTERS
-}
-
-// Whether the set has the matter. A number past the last matter is in no set.
-pub fn has_matter(set: u16, matter: u8) -> bool
-    ensures { Decides result (Mem matter set) }
-{
-    (matter as usize) < MOST_MATTERS && (set >> matter) % 2 == 1
 }

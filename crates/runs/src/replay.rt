@@ -85,16 +85,13 @@ fn set_up<R: OpenRack>(
         return Err(start);
     };
     let Start { rack, reserve } = start;
-    match Kiosk::new(heap, rack) {
-        Ok(kiosk) => Ok(Run {
-            kiosk,
-            answers,
-            purse: Purse::new(reserve),
-            places,
-            lists,
-        }),
-        Err(rack) => Err(Start { rack, reserve }),
-    }
+    Ok(Run {
+        kiosk: Kiosk::new(rack),
+        answers,
+        purse: Purse::new(reserve),
+        places,
+        lists,
+    })
 }
 
 // Room for the answers to the calls, and the blank lists that they need: made at once, so that no call can fail for want of memory.

@@ -20,12 +20,12 @@ const PLACES: usize = 1024;
 
 const BYTES: usize = 32_768;
 
-// No kiosk was set up. Nothing but memory can be wanting there.
+// The calls were not made: a run that finds no memory for its answers hands its start back, and no error.
 #[derive(Drop)]
-struct NoKiosk;
+struct NotRun;
 
-impl From<NoKiosk> for AllocError {
-    fn from(_: NoKiosk) -> AllocError {
+impl From<NotRun> for AllocError {
+    fn from(_: NotRun) -> AllocError {
         AllocError
     }
 }
@@ -40,7 +40,7 @@ pub fn play<R: OpenRack + Drop, F: FnOnce(&Run<R>) -> Result<String, AllocError>
 ) -> Result<String, AllocError>
     requires { F.IsAlwaysCallable say }
 {
-    let mut home = Kiosk::new(heap, PocketRack::new()).map_err(|_| NoKiosk)?;
+    let mut home = Kiosk::new(PocketRack::new());
     let reserve = home.open().unwrap();
     let start = Start { rack, reserve };
     let mut list = [0; PLACES];
@@ -52,7 +52,7 @@ pub fn play<R: OpenRack + Drop, F: FnOnce(&Run<R>) -> Result<String, AllocError>
         }
         Err(Start { rack: _, reserve }) => {
             shut(home, reserve);
-            Err(NoKiosk.into())
+            Err(NotRun.into())
         }
     }
 }

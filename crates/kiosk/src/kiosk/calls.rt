@@ -1,4 +1,4 @@
-ghost use Rattle.std.specs.Prelude.{◌≡◌, [], true, false, IfOk, IfErr, Some, None, MatchResult, OnOk, OnErr};
+ghost use Rattle.std.specs.Prelude.{◌≡◌, [], true, false, IfOk, IfErr, Some, None, OnOk, OnErr};
 ghost use Rattle.kiosk.specs.Book.{step, Does, bare, ended, in_session};
 ghost use Rattle.kiosk.specs.Standing.{book_of, start};
 ghost use Rattle.racks.specs.Meaning.{shaped};
@@ -14,19 +14,17 @@ use racks::rack::Rack;
 use rules::record::Record;
 use rules::rule::Shape;
 use rules::table::{MOST_RULES, MOST_SHEETS};
-use std::alloc::Global;
 
 impl<R: OpenRack> Kiosk<R> {
-    // Sets a kiosk up on a rack, without a session. The slip needs no heap, so the rack never comes back;
-    // `heap` and the result's type stay for the callers that were written when it could.
-    pub fn new(_heap: Global, rack: R) -> Result<Kiosk<R>, R>
-        ensures { MatchResult result (λ k. book_of R.OpenRack.state k ≡ start (R.OpenRack.state rack)) (λ e. e ≡ rack) }
+    // Sets a kiosk up on a rack, without a session.
+    pub fn new(rack: R) -> Kiosk<R>
+        ensures { book_of R.OpenRack.state result ≡ start (R.OpenRack.state rack) }
     {
-        Ok(Kiosk {
+        Kiosk {
             rack,
             session: None,
             slip: Slip::new(),
-        })
+        }
     }
 
     // Hands the rack back.
