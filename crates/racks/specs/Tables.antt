@@ -1,12 +1,9 @@
 -- What a table holds: how much at most, and one rule more.
-use Rattle.std.specs.Prelude.{◌≡◌, ℕ, ◌+◌, ◌<◌, ◌≤◌, Bool, true, cond, List, [], ◌∷◌, ◌++◌, length, take, Some, None, Option, nat_lt}
-use Rattle.std.proofs.Common.{sym, ◌∙◌, arith}
-use Rattle.std.specs.Borrow.{Bor}
+use Rattle.std.specs.Prelude.{◌≡◌, ℕ, ◌+◌, ◌<◌, ◌≤◌, Bool, true, cond, List, [], ◌∷◌, ◌++◌, length, take, Some, nat_lt}
+use Rattle.std.proofs.Common.{◌∙◌, arith}
 use Rattle.std.specs.List.{slice_get}
-use Rattle.std.specs.Option.{option_map}
-use Rattle.std.specs.Slice.{IsGetResult}
 use Rattle.std.proofs.lemmas.List.{take_more, length-take-le}
-use Rattle.std.proofs.lemmas.Option.{slice_get-get_or, slice_get_past}
+use Rattle.std.proofs.lemmas.Option.{slice_get-get_or}
 use Rattle.std.proofs.lemmas.Bool.{lt-ltb}
 use Rattle.rules.specs.declared.rule.Rule.{Rule}
 use Rattle.rules.specs.declared.table.Table.{Table}
@@ -24,8 +21,3 @@ push_room r P Q x l e f = let t : r ≡ true = e ∙ lt-ltb _ _ l in rw t at f
 -- one rule more of those to copy
 pub copied_more : (all P Q : List Rule) (i : ℕ) (x : Rule) → P ≡ take i all → i < length all → Some x ≡ slice_get all i → Q ≡ P ++ (x ∷ []) → Q ≡ take (i + 1) all
 copied_more all P Q i x e l s f = let n = slice_get-get_or all i no_rule l in let t = take_more all i no_rule l in cc
-
--- what a look at a place finds
-pub item_nth : (P : List Rule) (i : ℕ) (r : Option (Bor Rule)) → IsGetResult P i i r → option_map (λ x. x.now) r ≡ slice_get P i
-item_nth P i None h = sym (slice_get_past P i h.3)
-item_nth P i (Some x) h = let n = slice_get-get_or P i x.now h.3.0 in let e = h.1 in cc
