@@ -1,6 +1,5 @@
 pub mod Meaning
 pub mod Changing
-pub mod Sifting
 pub mod Packing
 pub mod Faults
 pub mod Reading

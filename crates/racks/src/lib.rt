@@ -4,4 +4,3 @@
 pub mod file;
 pub mod rack;
 pub mod sheets;
-pub mod sifting;

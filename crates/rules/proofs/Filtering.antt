@@ -1,7 +1,8 @@
 -- For the loop that filters the first i rules of a list into a table.
-use Rattle.std.proofs.Common.{◌≡◌, ℕ, ◌+◌, ◌<◌, Bool, true, false, cond, ltb, List, [], ◌∷◌, ◌++◌, length, take, filter, get_or, sym, ap, ◌∙◌, ⊎_elim, arith, length-append}
+use Rattle.std.proofs.Common.{◌≡◌, ℕ, ◌+◌, ◌<◌, ◌≤◌, Bool, true, false, cond, not, ltb, List, [], ◌∷◌, ◌++◌, length, take, filter, get_or, refl, sym, ap, ◌∙◌, ⊎_elim, arith, length-append}
 use Rattle.std.proofs.lemmas.List.{append-nil, take_all, take-append-le, length-take}
 use Rattle.std.proofs.lemmas.List.Elements.{filter_more}
+use Rattle.std.proofs.lemmas.List.Filters.{length-filter_both}
 use Rattle.std.proofs.lemmas.Bool.{lt-ltb, le-ltb, cases_lt}
 use Rattle.rules.specs.declared.rule.Rule.{Rule}
 use Rattle.rules.specs.Parts.{no_rule}
@@ -31,3 +32,9 @@ pub filtered_skip : (test : Rule → Bool) (P Q : List Rule) (i : ℕ) → i < l
 filtered_skip test P Q i l t e =
     let more = filter_more test P i no_rule l in
     e ∙ ap (take 256) (sym ((rw (sym t) at more) ∙ append-nil (filter test (take i P))))
+
+-- of a list that fits a table, all that the test keeps
+pub filtered_whole : (test : Rule → Bool) (P S Q : List Rule) → length P ≤ 256 → S ≡ P → Q ≡ take 256 (filter test S) → Q ≡ filter test P
+filtered_whole test P S Q l s q =
+    let few = length-filter_both test (λ r. not (test r)) (λ _. refl) P in
+    q ∙ ap (λ (R : List Rule). take 256 (filter test R)) s ∙ take_all 256 (filter test P) (omega arith)

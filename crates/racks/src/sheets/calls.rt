@@ -3,7 +3,6 @@ ghost use Rattle.racks.specs.Changing.{sheets_meaning, bare, begun, laid, withdr
 
 use crate::rack::Rack;
 use crate::sheets::Sheets;
-use crate::sifting::sift;
 use rules::matters::may_have;
 use rules::record::Record;
 use rules::rule::{Rule, Shape};
@@ -60,7 +59,7 @@ impl Sheets {
         ensures { Changes withdrawable withdrawn (sheets_meaning self.old) result (sheets_meaning self.new) }
     {
         let top = self.sheets.checked_sub(1)?;
-        self.table = sift(&self.table, |rule| rule.sheet < top);
+        self.table = Table::filtered(self.table.as_slice(), |rule| rule.sheet < top);
         self.sheets = top;
         Some(())
     }
