@@ -2,7 +2,7 @@ ghost use Rattle.std.specs.Prelude.{◌≡◌, ◌<◌, ◌≤◌, slice_index};
 ghost use Rattle.steps.specs.Claiming.{claimed, Claimed, Noted, Unclaimed};
 
 use crate::bits::those;
-use crate::sheets::Sheets;
+use crate::program::Program;
 use rules::matters::MOST_MATTERS;
 use rules::rule::{LiteralSet, Rule, Sign};
 
@@ -15,14 +15,14 @@ pub struct Claims {
 }
 
 impl Claims {
-    pub fn in_set(sheets: Sheets, x: LiteralSet) -> Claims
-        ensures { Claimed sheets.entry.rules.now x result }
+    pub fn in_set(program: Program, x: LiteralSet) -> Claims
+        ensures { Claimed program.entry.rules.now x result }
     {
         let mut claims = Claims {
             yes: [0; MOST_MATTERS],
             no: [0; MOST_MATTERS],
         };
-        for r in sheets.rules {
+        for r in program.rules {
             claims.note(*r, x);
         }
         claims

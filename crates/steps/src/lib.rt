@@ -6,6 +6,6 @@ pub mod claims;
 pub mod closure;
 pub mod model;
 pub mod overrulers;
+pub mod program;
 mod rejection;
-pub mod sheets;
 pub mod step;

@@ -5,15 +5,15 @@ ghost use Rattle.steps.specs.Claiming.{Against, Standing};
 
 use crate::bits::meet;
 use crate::claims::Claims;
-use crate::sheets::Sheets;
+use crate::program::Program;
 use rules::rule::Rule;
 use rules::table::{MOST_SHEETS, Table};
 
 // The rules that are not rejected where these sheets make their claims.
-pub fn survivors(sheets: Sheets, overrulers: &[u32; MOST_SHEETS], claims: &Claims) -> Table
-    ensures { Members (held result) (Standing sheets.entry.rules.now overrulers.now claims.now) }
+pub fn survivors(program: Program, overrulers: &[u32; MOST_SHEETS], claims: &Claims) -> Table
+    ensures { Members (held result) (Standing program.entry.rules.now overrulers.now claims.now) }
 {
-    Table::filtered(sheets.rules, |r| !rejected(r, overrulers, claims))
+    Table::filtered(program.rules, |r| !rejected(r, overrulers, claims))
 }
 
 // Whether a sheet that overrules that of the rule claims the opposite of its head.

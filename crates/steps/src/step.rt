@@ -3,8 +3,8 @@ ghost use Rattle.steps.specs.Parts.{Ready, Tabled};
 
 use crate::claims::Claims;
 use crate::closure::closure;
+use crate::program::Program;
 use crate::rejection::survivors;
-use crate::sheets::Sheets;
 use rules::rule::{LiteralSet, Rule};
 use rules::table::MOST_SHEETS;
 
@@ -18,8 +18,8 @@ pub fn step(
     requires { Ready matters rules.now }
     ensures { (over : Overruling) → Tabled over overrulers.now → Step rules.now over matters x result }
 {
-    let sheets = Sheets { rules, matters };
-    let claims = Claims::in_set(sheets, x);
-    let standing = survivors(sheets, overrulers, &claims);
+    let program = Program { rules, matters };
+    let claims = Claims::in_set(program, x);
+    let standing = survivors(program, overrulers, &claims);
     closure(standing.as_slice(), claims.defaults(matters))
 }
