@@ -6,6 +6,7 @@ ghost use Rattle.rules.specs.Held.{held};
 ghost use Rattle.kiosk.specs.contracts.slip.Slip.{the_row as slip-row};
 ghost use Rattle.kiosk.specs.contracts.slip.Fact.{the_row as fact-row};
 ghost use Rattle.kiosk.specs.Slip.{Finds, re_signed, fact_rule};
+ghost use Rattle.rules.specs.declared.rule.Sign.TheVariants.{No};
 
 use arrayvec::ArrayVec;
 use rules::rule::{Rule, Sign};
@@ -23,6 +24,8 @@ pub struct Fact {
 
 // What a slip's free places hold. By hand, since neither sign is a sign's default.
 impl Default for Fact {
+    ghost is_default = { λ x. x ≡ (record { matter = 0; sign = No }) };
+
     fn default() -> Fact {
         Fact {
             matter: 0,

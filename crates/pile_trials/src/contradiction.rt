@@ -29,16 +29,16 @@ fn graded(first: u8, second: u8) -> Result<Grades, OrderFault> {
     Ok(grades)
 }
 
-// How many outcomes there are, and the first.
-fn listed<R: Rack, O: Order>(rack: &R, order: &O) -> Result<(usize, Option<u16>), EvaluatorFault> {
+// How many outcomes there are, and what the first place holds then, where a 9 was.
+fn listed<R: Rack, O: Order>(rack: &R, order: &O) -> Result<(usize, u16), EvaluatorFault> {
     let mut list = [9; 2];
     let count = outcomes(rack, order, &mut list)?;
-    Ok((count, list.iter().take(count).copied().next()))
+    Ok((count, list[0]))
 }
 
 #[test]
 fn later_sheet_overrules(rt: HostRuntime) -> Result<(), Fail> {
-    assert_eq!(rt; listed(&contradiction()?, &Position), Ok((1, Some(0))));
+    assert_eq!(rt; listed(&contradiction()?, &Position), Ok((1, 0)));
     Ok(())
 }
 
@@ -46,8 +46,8 @@ fn later_sheet_overrules(rt: HostRuntime) -> Result<(), Fail> {
 fn higher_grade_overrules(rt: HostRuntime) -> Result<(), Fail> {
     let rack = contradiction()?;
     let grades = graded(2, 1)?;
-    assert_eq!(rt; listed(&rack, &Graded { grades }), Ok((1, Some(1))));
-    assert_eq!(rt; listed(&rack, &GradedPosition { grades }), Ok((1, Some(1))));
+    assert_eq!(rt; listed(&rack, &Graded { grades }), Ok((1, 1)));
+    assert_eq!(rt; listed(&rack, &GradedPosition { grades }), Ok((1, 1)));
     Ok(())
 }
 
@@ -55,7 +55,7 @@ fn higher_grade_overrules(rt: HostRuntime) -> Result<(), Fail> {
 fn equal_grades(rt: HostRuntime) -> Result<(), Fail> {
     let rack = contradiction()?;
     let grades = graded(1, 1)?;
-    assert_eq!(rt; listed(&rack, &Graded { grades }), Ok((0, None)));
-    assert_eq!(rt; listed(&rack, &GradedPosition { grades }), Ok((1, Some(0))));
+    assert_eq!(rt; listed(&rack, &Graded { grades }), Ok((0, 9)));
+    assert_eq!(rt; listed(&rack, &GradedPosition { grades }), Ok((1, 0)));
     Ok(())
 }
