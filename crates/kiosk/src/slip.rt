@@ -6,32 +6,20 @@ ghost use Rattle.rules.specs.Held.{held};
 ghost use Rattle.kiosk.specs.contracts.slip.Slip.{the_row as slip-row};
 ghost use Rattle.kiosk.specs.contracts.slip.Fact.{the_row as fact-row};
 ghost use Rattle.kiosk.specs.Slip.{Finds, re_signed, fact_rule};
-ghost use Rattle.rules.specs.declared.rule.Sign.TheVariants.{No};
 
 use arrayvec::ArrayVec;
+use rules::matters::MOST_MATTERS;
 use rules::rule::{Rule, Sign};
 use rules::table::Table;
 
 // The most facts that a slip holds: one on each matter.
-const MOST_FACTS: usize = 16;
+const MOST_FACTS: usize = MOST_MATTERS;
 
 // A fact of the slip: a matter with its sign.
-#[derive(Clone, Copy, PartialEq, Eq, Debug)]
+#[derive(Clone, Copy, PartialEq, Eq, Debug, Default)]
 pub struct Fact {
     pub matter: u8,
     pub sign: Sign,
-}
-
-// What a slip's free places hold. By hand, since neither sign is a sign's default.
-impl Default for Fact {
-    ghost is_default = { λ x. x ≡ (record { matter = 0; sign = No }) };
-
-    fn default() -> Fact {
-        Fact {
-            matter: 0,
-            sign: Sign::No,
-        }
-    }
 }
 
 // The table of a session's facts, with a place for each matter and no heap, so that no call can fail for want of memory.

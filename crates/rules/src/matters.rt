@@ -1,4 +1,4 @@
-ghost use Rattle.std.specs.Prelude.{◌≡◌};
+ghost use Rattle.std.specs.Prelude.{◌≡◌, ◌-◌, ◌^◌, min};
 ghost use Rattle.rules.specs.Records.{allowed};
 
 // The most matters that a rack may have: a set has a bit for each.
@@ -8,5 +8,16 @@ pub const MOST_MATTERS: usize = 16;
 pub fn may_have(matters: u8) -> bool
     ensures { result ≡ allowed matters }
 {
-    0 < matters && matters as usize <= MOST_MATTERS
+    0 < matters && usize::from(matters) <= MOST_MATTERS
+}
+
+// The set of the first so many matters; past the most that a rack may have, of all of these.
+pub fn all_matters(matters: u8) -> u16
+    ensures { result ≡ 2 ^ min matters 16 - 1 }
+{
+    if usize::from(matters) < MOST_MATTERS {
+        (1 << matters) - 1
+    } else {
+        u16::MAX
+    }
 }

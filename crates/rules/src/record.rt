@@ -1,6 +1,7 @@
 ghost use Rattle.std.specs.Prelude.{◌≡◌, ◌^◌, nat_lt};
 ghost use Rattle.rules.specs.Records.{Checks};
 
+use crate::matters::all_matters;
 use crate::rule::{Rule, Sign};
 
 // A rule as it arrives, on no sheet yet: plain numbers that may be nonsense.
@@ -35,5 +36,5 @@ impl Record {
 fn names_only(set: u16, matters: u8) -> bool
     ensures { result ≡ nat_lt set (2 ^ matters) }
 {
-    matters >= 16 || (set as u32) < (1u32 << matters)
+    set <= all_matters(matters)
 }

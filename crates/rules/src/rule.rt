@@ -3,10 +3,11 @@ ghost use Rattle.rules.specs.Semantics.{body, opposite, Clash, ◌⊆◌};
 ghost use Rattle.rules.specs.Signs.{Signs, sign_number};
 
 // The sign of a literal: a matter, which is a propositional atom (`Yes`), or its default negation (`No`).
-#[derive(Clone, Copy, PartialEq, Eq, Debug)]
+#[derive(Clone, Copy, PartialEq, Eq, Debug, Default)]
 pub enum Sign {
-    No,
-    Yes,
+    #[default]
+    No = 0,
+    Yes = 1,
 }
 
 impl Sign {
@@ -43,10 +44,7 @@ impl From<Sign> for u8 {
     ghost from_gives = { λ sign r. r ≡ sign_number sign };
 
     fn from(sign: Sign) -> u8 {
-        match sign {
-            Sign::No => 0,
-            Sign::Yes => 1,
-        }
+        sign as u8
     }
 }
 
@@ -55,7 +53,7 @@ impl From<Sign> for u8 {
 pub type LiteralSet = (u16, u16);
 
 // A rule of a numbered sheet. Its body is true where all `yes` matters hold and all `no` matters do not.
-#[derive(Clone, Copy, PartialEq, Eq, Debug)]
+#[derive(Clone, Copy, PartialEq, Eq, Debug, Default)]
 pub struct Rule {
     pub sheet: u8,
     pub head: u8,

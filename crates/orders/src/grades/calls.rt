@@ -36,7 +36,9 @@ impl Grades {
     pub fn of(&self, sheet: u8) -> u8
         ensures { result ≡ grade self.now sheet }
     {
-        let i = sheet as usize;
-        if i < self.len { self.bytes[i] } else { 0 }
+        self.bytes[..self.len]
+            .get(usize::from(sheet))
+            .copied()
+            .unwrap_or(0)
     }
 }

@@ -2,23 +2,15 @@ ghost use Rattle.std.specs.Prelude.{◌≡◌, [], ◌∷◌, ◌++◌, length, 
 ghost use Rattle.std.specs.List.{slice_get};
 ghost use Rattle.rules.specs.Held.{held};
 
-use crate::rule::{Rule, Sign};
+use crate::rule::Rule;
 use crate::table::{MOST_RULES, Table};
-
-const NO_RULE: Rule = Rule {
-    sheet: 0,
-    head: 0,
-    sign: Sign::No,
-    yes: 0,
-    no: 0,
-};
 
 impl Table {
     pub fn new() -> Table
         ensures { held result ≡ [] }
     {
         Table {
-            rules: [NO_RULE; MOST_RULES],
+            rules: [Rule::default(); MOST_RULES],
             len: 0,
         }
     }
@@ -42,7 +34,8 @@ impl Table {
         self.as_slice().get(usize::from(place)).copied()
     }
 
-    // Adds the rule at the end and answers true; a full table stays as it is.
+    // Adds the rule at the end and answers true; a full table stays as it is. Like a set's `insert`, it answers whether it did, and no
+    // error that every caller that has seen the room would have to throw away.
     pub fn push(&mut self, rule: Rule) -> bool
         ensures value { result ≡ nat_lt (length (held self.old)) 256 }
         ensures after { held self.new ≡ (if result then held self.old ++ (rule ∷ []) else held self.old) }
