@@ -10,7 +10,7 @@ use Rattle.kiosk.specs.declared.slip.Fact.{Fact}
 use Rattle.kiosk.specs.Slip.{Known, no_fact, fact_rule}
 use Rattle.kiosk.specs.Standing.{topped}
 
-length_facts : (s : ℕ) (xs : List Rule) (fs : List Fact) → length (xs ++ map (fact_rule s) fs) ≡ length xs + length fs
+pub length_facts : (s : ℕ) (xs : List Rule) (fs : List Fact) → length (xs ++ map (fact_rule s) fs) ≡ length xs + length fs
 length_facts s xs fs = length-append xs (map (fact_rule s) fs) ∙ ap (λ (n : ℕ). length xs + n) (length-map fs (fact_rule s))
 
 -- the rule at a place: below, or of the slip

@@ -1,0 +1,5 @@
+pub mod Changed
+pub mod Counted
+pub mod Parts
+pub mod Idle
+pub mod Opened
