@@ -1,24 +1,25 @@
 -- The calls on own sheets are the calls on the pile.
-use Rattle.std.specs.Prelude.{◌≡◌, ℕ, ◌+◌, ◌-◌, ◌<◌, ◌≤◌, Bool, true, false, cond, leb, List, [], ◌∷◌, ◌++◌, map, length, Some, None, Ok, Err, filter, Result, nat_le, nat_lt, refl}
+use Rattle.std.specs.Prelude.{◌≡◌, ℕ, ◌+◌, ◌-◌, ◌<◌, ◌≤◌, Bool, true, false, cond, leb, List, [], ◌∷◌, ◌++◌, map, length, Some, None, Ok, Err, filter, Option, Result, nat_le, nat_lt, refl}
 use Rattle.std.proofs.Common.{sym, ap, subst, ◌∙◌, ⊎_elim, arith}
 use Rattle.std.specs.List.{AllByRecursion}
 use Rattle.std.proofs.lemmas.List.{append-nil, append_assoc, length-map, length_push, map_push}
 use Rattle.std.proofs.lemmas.List.Elements.{filter-append}
 use Rattle.std.proofs.ByRecursion.{All-map, All-weaker}
-use Rattle.std.proofs.lemmas.Bool.{cases_lt, leb-false, lt-leb, le-leb, lt-ltb, le-ltb}
+use Rattle.std.proofs.lemmas.Bool.{cases_lt, leb-false, lt-leb, le-leb, lt-ltb, le-ltb, not_from_true}
 use Rattle.rules.specs.declared.record.Record.{Record}
 use Rattle.rules.specs.declared.rule.Rule.{Rule}
 use Rattle.rules.specs.Records.{good, ruled}
 use Rattle.rules.specs.Refusals.{first_met}
-use Rattle.rules.proofs.Refusing.{unmet, none_met, none≢some}
+use Rattle.rules.proofs.Refusing.{met, unmet, none_met, none≢some}
 use Rattle.racks.specs.Meaning.{Meaning, Sound, Kept, shaped}
 use Rattle.laying.specs.declared.fault.RackFault.{RackFault}
+use Rattle.laying.specs.declared.fault.RackFault.TheVariants.{PlacesFull}
 use Rattle.laying.specs.Faults.{rack_number}
 use Rattle.laying.specs.Laying.{Ground, ground, Grounded, under, used, below_floor, laid, withdrawn, over_again, lay_table, admit_table, withdraw_table, Lays, Withdraws}
 use Rattle.racks.proofs.Chosen.{kept_all, kept_none, kept_fewer}
 use Rattle.racks.proofs.Laid.{all_of}
 use Rattle.laying.specs.Laid.{every, used_all}
-use Rattle.laying.proofs.Answered.{lay_fine, lay_like, Admitted}
+use Rattle.laying.proofs.Answered.{lay_fine, lay_like}
 use Rattle.layers.specs.Over.{own_places, fits, raised, over, amended, stood}
 use Rattle.layers.specs.OverLemmas.{Fit, fit_from, fits_from}
 
@@ -112,6 +113,9 @@ on_floor a b =
     (λ h. let p = le-leb (a + b) a (omega arith) in let q = le-leb b 0 h in cc)
     (cases_lt 0 b)
 
+same_test : (a b : ℕ) → cond {A = Option ℕ} (nat_le (a + b) a) (Some 12) None ≡ cond (nat_le b 0) (Some 12) None
+same_test a b = ap (λ (t : Bool). cond {A = Option ℕ} t (Some 12) None) (on_floor a b)
+
 -- a fact of own sheets that fit holds of those that stand
 at_fit : (m o : Meaning) (P : Ground → Type 0) → fits (shaped m) (shaped o) ≡ true → P (ground (over true m o) m.sheets (own_places (shaped m))) → P (stood m o)
 at_fit m o P e h = subst (λ (b : Bool). P (ground (over b m o) m.sheets (own_places (shaped m)))) (sym e) h
@@ -125,23 +129,22 @@ stood_next m o p F e q f same =
     ∙ ap (λ (b : Bool). on (F (over b m o))) (sym e)
 
 module _ (m o p : Meaning) (k : Kept m) (e : fits (shaped m) (shaped o) ≡ true) where
-  pub lay_over : (x : Record) (r : Result (Unit {0}) RackFault) → Admitted (shaped o) (own_places (shaped m)) x → Lays (ground o 0 64) x r (ground p 0 64) → Lays (stood m o) x r (stood m p)
-  lay_over x (Ok u) d q =
+  pub lay_over : (x : Record) (r : Result (Unit {0}) RackFault) → 0 < o.sheets → good m.matters x ≡ true → length o.rules < own_places (shaped m) → Lays (ground o 0 64) x r (ground p 0 64) → Lays (stood m o) x r (stood m p)
+  lay_over x (Ok u) s t l q =
       let f = fit_from (shaped m) (shaped o) e in
       let pe : p ≡ laid o x = ap (λ (g : Ground). g.meaning) q.1 in
       let a = ap (λ (y : Meaning). y.matters) pe ∙ f.same_matters in
       let b = ap (λ (y : Meaning). y.sheets) pe in
       let c = ap (λ (y : Meaning). length y.rules) pe ∙ length_push o.rules (ruled (o.sheets - 1) x) in
       let n = f.few_sheets in
-      let l = d.room in
       let v = over_used m o k in (
-        at_fit m o (λ g. first_met (lay_table g x) ≡ None) e (lay_fine (ground (over true m o) m.sheets (own_places (shaped m))) x (let w = d.on in omega arith) (subst (λ (j : ℕ). good j x ≡ true) f.same_matters d.fine) (omega arith)),
-        stood_next m o p (λ y. laid y x) e pe (record { same_matters = a; few_sheets = omega arith; few_rules = omega arith }) (over_laid m o k x d.on),
+        at_fit m o (λ g. first_met (lay_table g x) ≡ None) e (lay_fine (ground (over true m o) m.sheets (own_places (shaped m))) x (omega arith) t (omega arith)),
+        stood_next m o p (λ y. laid y x) e pe (record { same_matters = a; few_sheets = omega arith; few_rules = omega arith }) (over_laid m o k x s),
       )
-  lay_over x (Err f) d q =
+  lay_over x (Err f) s t l q =
+      let h = (fit_from (shaped m) (shaped o) e).same_matters in
       let v = used_all o in
-      let l = d.room in
-      absurd (none≢some (lay_fine (ground o 0 64) x d.on d.fine (omega arith)) q.0)
+      absurd (none≢some (lay_fine (ground o 0 64) x s (subst (λ (n : ℕ). good n x ≡ true) (sym h) t) (omega arith)) q.0)
 
   pub withdraw_over : (r : Result (Unit {0}) RackFault) → Withdraws (ground o 0 64) r (ground p 0 64) → Withdraws (stood m o) r (stood m p)
   withdraw_over (Ok u) q =
@@ -159,7 +162,7 @@ module _ (m o p : Meaning) (k : Kept m) (e : fits (shaped m) (shaped o) ≡ true
       )
   withdraw_over (Err f) q =
       let pe : p ≡ o = ap (λ (g : Ground). g.meaning) q.1 in
-      (at_fit m o (λ g. first_met (withdraw_table g) ≡ Some (rack_number f)) e (ap (λ (b : Bool). cond b (Some 12) None) (on_floor m.sheets o.sheets) ∙ q.0), ap (stood m) pe)
+      (at_fit m o (λ g. first_met (withdraw_table g) ≡ Some (rack_number f)) e (same_test m.sheets o.sheets ∙ q.0), ap (stood m) pe)
 
 -- what is refused on the own sheets is refused on the pile
 pub refused_over : (m o : Meaning) → Kept m → fits (shaped m) (shaped o) ≡ true → (x : Record) (f : RackFault) → first_met (admit_table (shaped o) (own_places (shaped m)) x) ≡ Some (rack_number f) → Lays {U = Unit {0}} (stood m o) x (Err f) (stood m o)
@@ -167,3 +170,10 @@ refused_over m o k e x f h =
     let g = ground (over true m o) m.sheets (own_places (shaped m)) in
     let same = lay_like g x (shaped o) (on_floor m.sheets o.sheets) (sym (fit_from (shaped m) (shaped o) e).same_matters) (over_used m o k) in
     (at_fit m o (λ g. first_met (lay_table g x) ≡ Some (rack_number f)) e (same ∙ h), refl)
+
+-- a good rule for which there is no place
+module _ (m o : Meaning) (k : Kept m) (e : fits (shaped m) (shaped o) ≡ true) where
+  pub full_refused : (x : Record) → 0 < o.sheets → good m.matters x ≡ true → own_places (shaped m) ≤ length o.rules → Lays {U = Unit {0}} (stood m o) x (Err PlacesFull) (stood m o)
+  full_refused x l b u =
+      let h = (fit_from (shaped m) (shaped o) e).same_matters in
+      refused_over m o k e x PlacesFull (unmet 12 _ (lt-leb o.sheets 0 l) (unmet 13 _ (not_from_true _ (subst (λ (n : ℕ). good n x ≡ true) (sym h) b)) (met 14 _ (le-leb (own_places (shaped m)) (length o.rules) u))))

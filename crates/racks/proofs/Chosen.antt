@@ -1,16 +1,33 @@
 -- What a filter keeps of a list of rules.
-use Rattle.std.specs.Prelude.{◌≡◌, zero, suc, ◌≤◌, Bool, true, false, not, List, [], ◌∷◌, length, filter, refl}
-use Rattle.std.proofs.Common.{ap, ⊎_elim, arith}
+use Rattle.std.specs.Prelude.{◌≡◌, ℕ, zero, suc, ◌+◌, ◌<◌, ◌≤◌, Bool, true, false, cond, not, List, [], ◌∷◌, ◌++◌, length, take, filter, nat_lt, slice_index_or, refl}
+use Rattle.std.proofs.Common.{sym, ap, ◌∙◌, ⊎_elim, arith}
 use Rattle.std.specs.List.{AllByRecursion}
+use Rattle.std.proofs.lemmas.List.{append-nil, length-take-le}
+use Rattle.std.proofs.lemmas.List.Elements.{filter_more}
 use Rattle.std.proofs.ByRecursion.{All-get_or, All-from_get_or, all_kept_by}
 use Rattle.std.proofs.lemmas.List.Filters.{length-filter_both}
 use Rattle.std.proofs.lemmas.Bool.{cases_Bool}
 use Rattle.rules.specs.declared.rule.Rule.{Rule}
 use Rattle.rules.specs.Parts.{no_rule}
 use Rattle.racks.specs.Meaning.{Rising}
+use Rattle.racks.specs.Tables.{push_room}
 
 pub kept_fewer : (p : Rule → Bool) (P : List Rule) → length (filter p P) ≤ length P
 kept_fewer p P = let e = length-filter_both p (λ r. not (p r)) (λ _. refl) P in omega arith
+
+-- one rule more that is chosen, or that is not
+pub chosen_push : (p : Rule → Bool) (P Q S : List Rule) (i : ℕ) (b : Bool) → i < length P → length P ≤ 256 → true ≡ p (slice_index_or P i no_rule) → Q ≡ filter p (take i P) → b ≡ nat_lt (length Q) 256 → S ≡ cond b (Q ++ (slice_index_or P i no_rule ∷ [])) Q → S ≡ filter p (take (i + 1) P)
+chosen_push p P Q S i b l few t e room s =
+    let n = kept_fewer p (take i P) in
+    let k = length-take-le i P (omega arith) in
+    let q = ap length e in
+    let more = filter_more p P i no_rule l in
+    push_room b Q S (slice_index_or P i no_rule) (omega arith) room s ∙ ap (λ (R : List Rule). R ++ (slice_index_or P i no_rule ∷ [])) e ∙ sym (rw (sym t) at more)
+
+pub chosen_skip : (p : Rule → Bool) (P Q : List Rule) (i : ℕ) → i < length P → false ≡ p (slice_index_or P i no_rule) → Q ≡ filter p (take i P) → Q ≡ filter p (take (i + 1) P)
+chosen_skip p P Q i l t e =
+    let more = filter_more p P i no_rule l in
+    e ∙ sym ((rw (sym t) at more) ∙ append-nil (filter p (take i P)))
 
 pub kept_all : (p : Rule → Bool) (P : List Rule) → AllByRecursion (λ r. p r ≡ true) P → filter p P ≡ P
 kept_all p [] a = refl

@@ -1,4 +1,5 @@
 pub mod Laid
+pub mod Looked
 pub mod Chosen
 pub mod Packings
 pub mod SheetReading

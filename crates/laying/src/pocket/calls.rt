@@ -66,8 +66,9 @@ impl OpenRack for PocketRack {
 
     fn lay(&mut self, record: Record) -> Result<(), RackFault> {
         admit(self.shape(), PLACES, record)?;
-        // Not refused: 64 places are fewer than a table has.
-        self.sheets.lay(record).ok_or(RackFault::PlacesFull)
+        // Not refused: 64 places are fewer than a table has, and the rule was admitted.
+        self.sheets.lay(record).unwrap();
+        Ok(())
     }
 
     fn withdraw(&mut self) -> Result<(), RackFault> {

@@ -39,7 +39,7 @@ fn read_sheets(mut sheets: Sheets, announced: u8, bytes: &[u8]) -> Result<FileRa
     let mut rest = bytes;
     for _ in 0..announced {
         // Not refused: the head announced no sheet too many.
-        sheets.begin().ok_or(FileFault::TooManySheets)?;
+        sheets.begin().unwrap();
         rest = read_sheet(&mut sheets, rest)?;
     }
     if !rest.is_empty() {

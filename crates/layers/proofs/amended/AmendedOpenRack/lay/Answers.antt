@@ -1,12 +1,14 @@
-use Rattle.std.proofs.Common.{ℕ, Err, sym, ap, ◌∙◌, subst}
+use Rattle.std.proofs.Common.{◌≡◌, ℕ, true, Err, sym, ap, ◌∙◌, subst}
 use Rattle.std.proofs.lemmas.Result.{err_from_is_err_and}
 use Rattle.rules.specs.declared.rule.Shape.{Shape}
+use Rattle.rules.specs.Records.{good}
 use Rattle.rules.specs.Refusals.{first_met}
 use Rattle.laying.specs.Laying.{Ground, admit_table, Lays}
 use Rattle.laying.specs.Pocketing.{pocket_meaning}
 use Rattle.laying.proofs.Answered.{admitted}
 use Rattle.racks.specs.Meaning.{shaped}
 use Rattle.layers.specs.Over.{own_places, stood}
+use Rattle.layers.specs.OverLemmas.{fit_from}
 use Rattle.layers.specs.Amending.{lay_over, refused_over}
 use Rattle.layers.proofs.amended.AmendedOpenRack.lay.Goals as goal
 
@@ -28,4 +30,7 @@ returns g c =
     let o = pocket_meaning s.own in
     let p = pocket_meaning c.lay.new.self in
     let asked = ap (λ (y : Shape). first_met (admit_table y c.places.result x)) c.shape.ensures ∙ ap (λ (n : ℕ). first_met (admit_table (shaped o) n x)) (c.places.ensures ∙ ap own_places c.settle-below.ensures.shape) in
-    subst (λ (h : Ground). Lays h x c.lay.result (stood m p)) c.settle-below.ensures.same (lay_over m o p (g.met.R.Rack.kept s.below) c.settle-below.ensures.fit x c.lay.result (admitted (shaped o) (own_places (shaped m)) x (sym asked ∙ c.in_ok-admit.ensures.0)) c.lay.ensures)
+    let fit = c.settle-below.ensures.fit in
+    let d = admitted (shaped o) (own_places (shaped m)) x (sym asked ∙ c.in_ok-admit.ensures.0) in
+    let fine = subst (λ (n : ℕ). good n x ≡ true) (fit_from (shaped m) (shaped o) fit).same_matters d.fine in
+    subst (λ (h : Ground). Lays h x c.lay.result (stood m p)) c.settle-below.ensures.same (lay_over m o p (g.met.R.Rack.kept s.below) fit x c.lay.result d.on fine d.room c.lay.ensures)
