@@ -3,12 +3,15 @@
 // A pile that asked the rack below twice at each layer would need 128 times as long at depth 8 as at depth 1.
 #![tactic(auto)]
 
+use anyhow::anyhow;
 use layers::amended::Amended;
 use layers::withheld::Withheld;
+use laying::fault::RackFault;
 use laying::open_rack::OpenRack;
 use laying::pocket::PocketRack;
 use racks::rack::Rack;
 use rules::record::Record;
+use rules::refusal::Refusal;
 use std::env;
 use std::time::Instant;
 
@@ -18,7 +21,8 @@ fn main(rt: HostRuntime) -> anyhow::Result<()> {
         return Ok(());
     };
     let repeats = word.parse::<u32>()?;
-    let one = Withheld::new(full_pocket(), 40);
+    let pocket = full_pocket().map_err(|fault| anyhow!("refused {}", fault.number()))?;
+    let one = Withheld::new(pocket, 40);
     show(&rt, 1, &one, repeats)?;
     let two = Amended::new(one);
     show(&rt, 2, &two, repeats)?;
@@ -29,18 +33,18 @@ fn main(rt: HostRuntime) -> anyhow::Result<()> {
 }
 
 // A pocket rack with a rule in each of its places.
-fn full_pocket() -> PocketRack {
+fn full_pocket() -> Result<PocketRack, RackFault> {
     let mut rack = PocketRack::new();
-    let _ = rack.begin();
+    rack.begin()?;
     for _ in 0..64 {
-        let _ = rack.lay(Record {
+        rack.lay(Record {
             head: 0,
             sign: 1,
             yes: 0,
             no: 0,
-        });
+        })?;
     }
-    rack
+    Ok(rack)
 }
 
 fn show<R: Rack>(rt: &HostRuntime, depth: u8, pile: &R, repeats: u32) -> anyhow::Result<()> {

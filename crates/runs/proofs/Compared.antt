@@ -12,6 +12,7 @@ use Rattle.kiosk.specs.Book.{Book, Sheet}
 use Rattle.kiosk.specs.Standing.{on_sheet, numbered, all_sheets, shown}
 use Rattle.runs.specs.declared.run.Run.{Run}
 use Rattle.runs.specs.declared.run.Start.{Start}
+use Rattle.runs.specs.declared.run.Unstarted.{Unstarted}
 use Rattle.runs.specs.Running.{first, after, Listing, Replays}
 use Rattle.runs.specs.Comparing.{tautology, without_tautologies, SameButTautologies, counted, listed_count}
 
@@ -45,7 +46,7 @@ same_fronts over b c old new old' new' k j total e l m =
     (subst (λ (n : ℕ). Lists (shown c).rules over n (take j new')) (sym e.matters) m.listed.front)
 
 -- the last listing of a run that had places enough
-listed_last : {R : Type 0} (g : R → Ground) (over : Overruling) (places : ℕ) (s : Start R) (calls : List Call) (old new : List ℕ) (r : Result (Run R × Result ℕ EvaluatorFault) (Start R)) (k : ℕ) → listed_count r ≡ Some k → Replays g over places s calls old new r → Listing over (after (first g s.rack) calls) old new (Ok k)
+listed_last : {R : Type 0} (g : R → Ground) (over : Overruling) (places : ℕ) (s : Start R) (calls : List Call) (old new : List ℕ) (r : Result (Run R × Result ℕ EvaluatorFault) (Unstarted R)) (k : ℕ) → listed_count r ≡ Some k → Replays g over places s calls old new r → Listing over (after (first g s.rack) calls) old new (Ok k)
 listed_last g over places s calls old new (Err e) k q h = let z : ◌≡◌ {A = ℕ} 0 1 = cc in absurd (omega arith)
 listed_last g over places s calls old new (Ok x) k q h = go x.1 q h.1
   where
@@ -53,7 +54,7 @@ listed_last g over places s calls old new (Ok x) k q h = go x.1 q h.1
     go (Err e) q l = let z : ◌≡◌ {A = ℕ} 0 1 = cc in absurd (omega arith)
     go (Ok n) q l = let e : n ≡ k = cc in subst (λ (i : ℕ). Listing over (after (first g s.rack) calls) old new (Ok i)) e l
 
-pub same_ends : {R S : Type 0} (g : R → Ground) (h : S → Ground) (over : Overruling) (places : ℕ) (s : Start R) (s' : Start S) (calls calls' : List Call) (old new old' new' : List ℕ) (r : Result (Run R × Result ℕ EvaluatorFault) (Start R)) (r' : Result (Run S × Result ℕ EvaluatorFault) (Start S))
+pub same_ends : {R S : Type 0} (g : R → Ground) (h : S → Ground) (over : Overruling) (places : ℕ) (s : Start R) (s' : Start S) (calls calls' : List Call) (old new old' new' : List ℕ) (r : Result (Run R × Result ℕ EvaluatorFault) (Unstarted R)) (r' : Result (Run S × Result ℕ EvaluatorFault) (Unstarted S))
     → Total over → Replays g over places s calls old new r → Replays h over places s' calls' old' new' r'
     → (k j : ℕ) → listed_count r ≡ Some k → listed_count r' ≡ Some j → SameButTautologies (after (first g s.rack) calls) (after (first h s'.rack) calls') → take k new ≡ take j new'
 same_ends g h over places s s' calls calls' old new old' new' r r' total one other k j q q' e =

@@ -37,12 +37,12 @@ pub fact_keeps : (b : Book) (a s : ℕ) → in_session (step b (Stating a s)).bo
 fact_keeps b a s = fact_by b b.slip a s
 
 -- a call that is made as the book's step says
-pub done_answers : (over : Overruling) (places : ℕ) (b k : Book) (c d : Call) (r : Result (Unit {0}) KioskFault) → c ≡ d → asks d ≡ false → Does (step b d) r k → Answers over places b c (Done r)
-done_answers over places b k c d r e q h = (ap asks e ∙ q, h.0 ∙ ap (λ (x : Call). (step b x).answer) (sym e))
+pub done_answers : (over : Overruling) (places : ℕ) (b : Book) {k : Book} {c d : Call} {r : Result (Unit {0}) KioskFault} → c ≡ d → asks d ≡ false → Does (step b d) r k → Answers over places b c (Done r)
+done_answers over places b e q h = (ap asks e ∙ q, h.0 ∙ ap (λ (x : Call). (step b x).answer) (sym e))
 
 -- a call that keeps the session keeps the tickets in hand
-pub purse_kept : (p : Purse) (b k : Book) (c : Call) → in_session (step b c).book.slip ≡ in_session b.slip → k ≡ (step b c).book → Pursed b p → Pursed k p
-purse_kept p b k c s h q = q ∙ sym (ap (λ (x : Book). in_session x.slip) h ∙ s)
+pub purse_kept : (p : Purse) (b : Book) {k : Book} (c : Call) → in_session (step b c).book.slip ≡ in_session b.slip → k ≡ (step b c).book → Pursed b p → Pursed k p
+purse_kept p b c s h q = q ∙ sym (ap (λ (x : Book). in_session x.slip) h ∙ s)
 
 -- Blank lists
 

@@ -14,6 +14,7 @@ use Rattle.runs.specs.declared.run.Answer.{Answer}
 use Rattle.runs.specs.declared.run.Answer.TheVariants.{Done, Listed as WithList}
 use Rattle.runs.specs.declared.run.Run.{Run}
 use Rattle.runs.specs.declared.run.Start.{Start}
+use Rattle.runs.specs.declared.run.Unstarted.{Unstarted}
 
 -- The book
 
@@ -96,6 +97,6 @@ pub record Performed {R : Type 0} (g : R → Ground) (over : Overruling) (places
   pub purse : Pursed (after (first g rack) calls) run.purse
 
 -- and then the list was filled from that book; or there was no memory, and all is as it was
-abbrev pub Replays : {R : Type 0} (g : R → Ground) (over : Overruling) (places : ℕ) → Start R → List Call → List ℕ → List ℕ → Result (Run R × Result ℕ EvaluatorFault) (Start R) → Type 0
+abbrev pub Replays : {R : Type 0} (g : R → Ground) (over : Overruling) (places : ℕ) → Start R → List Call → List ℕ → List ℕ → Result (Run R × Result ℕ EvaluatorFault) (Unstarted R) → Type 0
 Replays g over places s calls old new (Ok k) = Performed g over places s.rack calls k.0 × Listing over (after (first g s.rack) calls) old new k.1
-Replays g over places s calls old new (Err e) = (e ≡ s) × (new ≡ old)
+Replays g over places s calls old new (Err e) = (e.start ≡ s) × (new ≡ old)

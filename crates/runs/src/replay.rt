@@ -3,7 +3,7 @@ ghost use Rattle.runs.specs.Purse.{Stocked};
 ghost use Rattle.runs.specs.Running.{first, after as book-after, asked, Ready, Performed, Replays};
 ghost use Rattle.runs.specs.Comparing.{SameButTautologies, listed_count};
 
-use crate::run::{Answer, Purse, Run, Start};
+use crate::run::{Answer, Purse, Run, Start, Unstarted};
 use evaluator::answer::EvaluatorFault;
 use evaluator::outcomes::outcomes;
 use kiosk::call::Call;
@@ -21,7 +21,7 @@ pub fn replay<R: OpenRack, O: Order>(
     order: &O,
     places: usize,
     list: &mut [u16],
-) -> Result<(Run<R>, Result<usize, EvaluatorFault>), Start<R>>
+) -> Result<(Run<R>, Result<usize, EvaluatorFault>), Unstarted<R>>
     ensures { Replays R.OpenRack.state (O.Order.over order.now) places start calls.now list.old list.new result }
 {
     let run = perform_all(heap, start, calls, order, places)?;
@@ -39,8 +39,8 @@ pub fn replay_two<R: OpenRack, S: OpenRack, O: Order>(
     list: &mut [u16],
     other_list: &mut [u16],
 ) -> (
-    Result<(Run<R>, Result<usize, EvaluatorFault>), Start<R>>,
-    Result<(Run<S>, Result<usize, EvaluatorFault>), Start<S>>,
+    Result<(Run<R>, Result<usize, EvaluatorFault>), Unstarted<R>>,
+    Result<(Run<S>, Result<usize, EvaluatorFault>), Unstarted<S>>,
 )
     ensures one { Replays R.OpenRack.state (O.Order.over order.now) places starts.0 calls.entry.0.now list.old list.new result.0 }
     ensures other { Replays S.OpenRack.state (O.Order.over order.now) places starts.1 calls.entry.1.now other_list.old other_list.new result.1 }
@@ -60,8 +60,8 @@ fn perform_all<R: OpenRack, O: Order>(
     calls: &[Call],
     order: &O,
     places: usize,
-) -> Result<Run<R>, Start<R>>
-    ensures { MatchResult result (λ k. Performed R.OpenRack.state (O.Order.over order.now) places start.rack calls.now k) (λ e. e ≡ start) }
+) -> Result<Run<R>, Unstarted<R>>
+    ensures { MatchResult result (λ k. Performed R.OpenRack.state (O.Order.over order.now) places start.rack calls.now k) (λ e. e.start ≡ start) }
 {
     let mut run = set_up(heap, start, calls, places)?;
     for call in calls {
@@ -78,20 +78,22 @@ fn set_up<R: OpenRack>(
     start: Start<R>,
     calls: &[Call],
     places: usize,
-) -> Result<Run<R>, Start<R>>
-    ensures { MatchResult result (λ k. Ready R.OpenRack.state places start.rack calls.now k) (λ e. e ≡ start) }
+) -> Result<Run<R>, Unstarted<R>>
+    ensures { MatchResult result (λ k. Ready R.OpenRack.state places start.rack calls.now k) (λ e. e.start ≡ start) }
 {
-    let Ok((answers, lists)) = room(heap, calls, places) else {
-        return Err(start);
-    };
-    let Start { rack, reserve } = start;
-    Ok(Run {
-        kiosk: Kiosk::new(rack),
-        answers,
-        purse: Purse::new(reserve),
-        places,
-        lists,
-    })
+    match room(heap, calls, places) {
+        Ok((answers, lists)) => {
+            let Start { rack, reserve } = start;
+            Ok(Run {
+                kiosk: Kiosk::new(rack),
+                answers,
+                purse: Purse::new(reserve),
+                places,
+                lists,
+            })
+        }
+        Err(error) => Err(Unstarted { start, error }),
+    }
 }
 
 // Room for the answers to the calls, and the blank lists that they need: made at once, so that no call can fail for want of memory.

@@ -3,6 +3,7 @@ use kiosk::fault::KioskFault;
 use kiosk::kiosk::Kiosk;
 use kiosk::ticket::Ticket;
 use laying::open_rack::OpenRack;
+use std::alloc::AllocError;
 
 // What one call answered; a listing comes with its list.
 #[derive(Drop)]
@@ -15,6 +16,12 @@ pub enum Answer {
 pub struct Start<R: OpenRack> {
     pub rack: R,
     pub reserve: Ticket,
+}
+
+// A run that found no memory for its answers: its start comes back whole.
+pub struct Unstarted<R: OpenRack> {
+    pub start: Start<R>,
+    pub error: AllocError,
 }
 
 // The tickets in hand: the reserve, and an open session's.

@@ -1,6 +1,6 @@
 use crate::line::{Line, read};
 use crate::play::{last_answer, play, report};
-use crate::words::{Said, told};
+use crate::words::told;
 use evaluator::matter::{reading, ruling};
 use kiosk::call::Call;
 use laying::pocket::PocketRack;
@@ -24,11 +24,10 @@ pub fn play_script(heap: Global, script: &[u8]) -> Result<String, AllocError> {
     let mut text = String::new(heap);
     for (number, line) in (1usize..).zip(script.split(|byte| *byte == b'\n')) {
         match read(line) {
-            Ok(Line::Nothing) => (),
-            Ok(asked) => {
+            Ok(None) => (),
+            Ok(Some(asked)) => {
                 let said = day.take(heap, asked)?;
-                let name = Said(asked);
-                writeln!(text, "line {number}: {name}: {said}")?;
+                writeln!(text, "line {number}: {asked}: {said}")?;
             }
             Err(help) => writeln!(text, "line {number}: cannot be read: {help}")?,
         }
@@ -40,7 +39,6 @@ impl Day {
     // Does what a line asks for, and says how it went.
     fn take(&mut self, heap: Global, line: Line) -> Result<String, AllocError> {
         match line {
-            Line::Nothing => Ok(String::new(heap)),
             Line::SetUp(matters) => self.set_up(heap, matters),
             Line::Make(call) => {
                 self.calls.push(call)?;

@@ -1,6 +1,6 @@
-ghost use Rattle.std.specs.Prelude.{◌≡◌, ◌==◌, ◌<◌, false, None, Ok, Err, IfSome};
+ghost use Rattle.std.specs.Prelude.{◌≡◌, ◌==◌, ◌<◌, true, false, Some, None, Ok, Err, IfSome};
 ghost use Rattle.std.specs.List.{before_first, after_first};
-ghost use Rattle.script.specs.Lines.{word, argument, alone, takes_argument};
+ghost use Rattle.script.specs.Lines.{word, argument, blank, alone, takes_argument};
 ghost use Rattle.script.specs.declared.line.Unreadable.TheVariants.{NoSuchCall};
 
 use kiosk::call::Call;
@@ -12,7 +12,6 @@ use thiserror::Error;
 // What a line of a script asks for.
 #[derive(Clone, Copy, PartialEq, Eq, Debug)]
 pub enum Line {
-    Nothing,
     SetUp(u8),
     Make(Call),
     Report,
@@ -35,20 +34,24 @@ pub enum Unreadable {
     BeyondBody,
 }
 
-// Reads a line as it stands in a script.
-pub(crate) fn read(line: &[u8]) -> Result<Line, Unreadable> {
+// Reads a line as it stands in a script; one that is blank but for a comment asks for nothing.
+pub(crate) fn read(line: &[u8]) -> Result<Option<Line>, Unreadable> {
     parse(from_utf8(line).map_err(|_| Unreadable::NoText)?)
 }
 
-// Reads a line of text. An `impl FromStr` would be a second name for the same, since callers have this one.
-pub fn parse(line: &str) -> Result<Line, Unreadable>
-    ensures alone { IfSome (alone (word line.now)) (λ l. result ≡ Ok l) }
-    ensures unknown { alone (word line.now) ≡ None → takes_argument (word line.now) ≡ false → result ≡ Err NoSuchCall }
+// Reads a line of text. Not an `impl FromStr`, since a blank line asks for nothing.
+pub fn parse(line: &str) -> Result<Option<Line>, Unreadable>
+    ensures blank { blank (word line.now) ≡ true → result ≡ Ok None }
+    ensures alone { IfSome (alone (word line.now)) (λ l. result ≡ Ok (Some l)) }
+    ensures unknown { blank (word line.now) ≡ false → alone (word line.now) ≡ None → takes_argument (word line.now) ≡ false → result ≡ Err NoSuchCall }
 {
     let (word, rest) = cut(line);
+    if word.is_empty() {
+        return Ok(None);
+    }
     match parse_alone(word) {
-        Some(line) => Ok(line),
-        None => parse_with(word, rest),
+        Some(line) => Ok(Some(line)),
+        None => parse_with(word, rest).map(Some),
     }
 }
 
@@ -76,7 +79,6 @@ fn parse_alone(word: &str) -> Option<Line>
     ensures { result ≡ alone word.now }
 {
     match word {
-        "" => Some(Line::Nothing),
         "begin" => Some(Line::Make(Call::Begin)),
         "withdraw" => Some(Line::Make(Call::Withdraw)),
         "open" => Some(Line::Make(Call::Open)),

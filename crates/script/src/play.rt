@@ -10,25 +10,11 @@ use kiosk::ticket::Ticket;
 use laying::open_rack::OpenRack;
 use laying::pocket::PocketRack;
 use orders::position::Position;
+use report::listing::{OUTPUT, PLACES};
 use report::report::write_report;
 use runs::replay::replay;
-use runs::run::{Purse, Run, Start};
+use runs::run::{Purse, Run, Start, Unstarted};
 use std::alloc::{AllocError, Global};
-
-// Places of a list, and bytes of a report.
-const PLACES: usize = 1024;
-
-const BYTES: usize = 32_768;
-
-// The calls were not made: a run that finds no memory for its answers hands its start back, and no error.
-#[derive(Drop)]
-struct NotRun;
-
-impl From<NotRun> for AllocError {
-    fn from(_: NotRun) -> AllocError {
-        AllocError
-    }
-}
 
 // Sets a kiosk up on a rack, makes the calls, and says of the run what is wanted.
 // The ticket in reserve, by which `end` can be made at every point, comes from a kiosk of its own.
@@ -50,9 +36,14 @@ pub fn play<R: OpenRack + Drop, F: FnOnce(&Run<R>) -> Result<String, AllocError>
             close(run, home);
             said
         }
-        Err(Start { rack: _, reserve }) => {
+        Err(
+            Unstarted {
+                start: Start { rack: _, reserve },
+                error,
+            },
+        ) => {
             shut(home, reserve);
-            Err(NotRun.into())
+            Err(error)
         }
     }
 }
@@ -67,7 +58,7 @@ pub fn last_answer<R: OpenRack>(heap: Global, run: &Run<R>) -> Result<String, Al
 
 pub fn report<R: OpenRack>(heap: Global, run: &Run<R>) -> Result<String, AllocError> {
     let mut list = [0; PLACES];
-    let mut bytes = [0; BYTES];
+    let mut bytes = [0; OUTPUT];
     match write_report(&run.kiosk, &Position, &mut list, &mut bytes) {
         Ok(len) => words::report(heap, &bytes[..len]),
         Err(fault) => words::refused(heap, fault),

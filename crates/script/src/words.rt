@@ -11,10 +11,9 @@ use std::fmt;
 pub struct Said<T>(pub T);
 
 // What a line asks for, by the word that it begins with.
-impl fmt::Display for Said<Line> {
+impl fmt::Display for Line {
     fn fmt<W: fmt::Write>(&self, f: &mut fmt::Formatter<W>) -> fmt::Result {
-        f.write_str(match self.0 {
-            Line::Nothing => "",
+        f.write_str(match self {
             Line::SetUp(_) => "set up",
             Line::Make(Call::Begin) => "begin",
             Line::Make(Call::Lay(_)) => "lay",
