@@ -21,7 +21,7 @@ pub fn settle(program: Program, overrulers: &Overrulers) -> Model
 {
     let mut x = (0, 0);
     let mut rounds = 0;
-    // No chain, no recursion: the rounds come by `break`.
+    // It stays a loop: the rounds come by `break`.
     let (literals, rounds) = 'turns: loop {
         let y = step(program, &overrulers.broad, x);
         let z = step(program, &overrulers.narrow, y);
