@@ -57,10 +57,10 @@ fn read(x: LiteralSet, matter: u8) -> Reading
 
 impl Ruling {
     // The ruling when one more outcome is seen, by whether it has the matter.
-    fn after(self, has: bool) -> Ruling
-        ensures { (with without : Bool) → self ≡ sum with without → result ≡ sum (with || has) (without || not has) }
+    fn after(self, with_it: bool) -> Ruling
+        ensures { (with without : Bool) → self ≡ sum with without → result ≡ sum (with || with_it) (without || not with_it) }
     {
-        match (self, has) {
+        match (self, with_it) {
             (Ruling::NoOutcome | Ruling::Always, true) => Ruling::Always,
             (Ruling::NoOutcome | Ruling::Never, false) => Ruling::Never,
             _ => Ruling::Varies,

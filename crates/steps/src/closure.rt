@@ -1,4 +1,3 @@
-ghost use Rattle.std.specs.Prelude.{◌≡◌, ◌<◌, Decides};
 ghost use Rattle.rules.specs.Semantics.{Mem, ◌∈◌, Formed, Closure};
 ghost use Rattle.rules.specs.Parts.{Round};
 

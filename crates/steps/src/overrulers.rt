@@ -20,25 +20,26 @@ pub struct Overrulers {
 }
 
 impl Overrulers {
+    ghost use Rattle.steps.specs.Ruling.{Ruled};
+
     pub fn of<O: Order>(order: &O) -> Overrulers
-        ensures broad { Tabled (O.Order.over order.now) result.broad }
-        ensures narrow { Tabled (strictly (O.Order.over order.now)) result.narrow }
+        ensures { Ruled (O.Order.over order.now) result }
     {
-        let broad = array::from_fn(|i| ask_of(order, i as u8));
-        let narrow = array::from_fn(|i| narrowed_of(&broad, i as u8));
+        let broad = array::from_fn(|i| overrulers_of(order, i as u8));
+        let narrow = array::from_fn(|i| one_way_overrulers_of(&broad, i as u8));
         Overrulers { broad, narrow }
     }
 }
 
 // The sheets that overrule sheet `i`.
-fn ask_of<O: Order>(order: &O, i: u8) -> u32
+fn overrulers_of<O: Order>(order: &O, i: u8) -> u32
     ensures { SetOf result (Overrules (O.Order.over order.now) i) }
 {
     those(MOST_SHEETS as u8, |j| order.overrules(j, i))
 }
 
 // Those of them that it does not overrule in turn.
-fn narrowed_of(broad: &[u32; MOST_SHEETS], i: u8) -> u32
+fn one_way_overrulers_of(broad: &[u32; MOST_SHEETS], i: u8) -> u32
     requires { i < 32 }
     ensures { (over : Overruling) → Tabled over broad.now → SetOf result (Overrules (strictly over) i) }
 {

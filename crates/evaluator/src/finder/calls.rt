@@ -9,16 +9,21 @@ use orders::order::Order;
 use racks::rack::Rack;
 use steps::model::settle;
 use steps::overrulers::Overrulers;
+use steps::program::Program;
 
 impl Finder {
     // Finds the outcomes that the rack's sheets allow under the order.
     pub fn new<R: Rack, O: Order>(rack: &R, order: &O) -> Finder
         ensures { From (R.Rack.meaning rack.now).rules (O.Order.over order.now) (R.Rack.meaning rack.now).matters result 0 }
     {
-        let table = rack.read();
-        let matters = rack.shape().matters;
+        let (shape, table) = rack.survey();
+        let matters = shape.matters;
+        let program = Program {
+            rules: table.as_slice(),
+            matters,
+        };
         let overrulers = Overrulers::of(order);
-        let model = settle(table.as_slice(), matters, &overrulers).literals;
+        let model = settle(program, &overrulers).literals;
         let undecided = undecided(matters, model);
         let candidates = Candidates {
             table,

@@ -6,6 +6,7 @@ ghost use Rattle.steps.specs.Subsets.{part};
 
 use crate::finder::bounds::{all_matters, numbered};
 use rules::table::{MOST_SHEETS, Table};
+use steps::program::Program;
 use steps::step::step;
 
 // The sets that are tried: those between the yes matters of the well-founded model and what its no matters leave.
@@ -45,6 +46,16 @@ impl Candidates {
         ensures { (over : Overruling) → Tabled over self.now.overrulers → Decides result (Outcome (held self.now.table) over self.now.matters m) }
     {
         let x = (m, all_matters(self.matters) - m);
-        step(self.table.as_slice(), self.matters, &self.overrulers, x) == x
+        step(self.program(), &self.overrulers, x) == x
+    }
+
+    fn program(&self) -> Program<'_>
+        ensures rules { result.rules.now ≡ held self.now.table }
+        ensures matters { result.matters ≡ self.now.matters }
+    {
+        Program {
+            rules: self.table.as_slice(),
+            matters: self.matters,
+        }
     }
 }

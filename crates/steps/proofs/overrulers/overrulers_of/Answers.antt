@@ -1,6 +1,6 @@
 use Rattle.std.proofs.Common.{rules}
 use Rattle.steps.proofs.Gathering.{decided_set}
-use Rattle.steps.proofs.overrulers.ask_of.Goals as goal
+use Rattle.steps.proofs.overrulers.overrulers_of.Goals as goal
 
 pub returns : goal.returns
 returns g c = decided_set c.those.ensures.below (λ a l. let h = c.those.ensures.each a l in search rules)
