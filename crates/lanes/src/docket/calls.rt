@@ -57,7 +57,7 @@ impl Docket {
     }
 }
 
-// Adds the rules about the matter to the table.
+// Adds the rules about the matter to the table. `Table::filtered` is of no use: it makes a table, and this one goes on.
 fn gather(table: &mut Table, rules: &[Rule], matter: u8)
     requires room { length (held table.old) + length (filter (rule_about matter) rules.now) ≤ 256 }
     requires formed { Formed 16 rules.now }
