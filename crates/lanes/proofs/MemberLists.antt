@@ -13,13 +13,13 @@ use Rattle.std.proofs.lemmas.Iterator.{YieldsList}
 use Rattle.std.proofs.lemmas.Iterator.Consumers.{YieldsList-from_first, YieldsList-turn}
 use Rattle.std.proofs.lemmas.Nat.Bits.{bit_at-trailing_zeros}
 use Rattle.std.proofs.lemmas.Bool.{cases_lt, cases_eq, cases_Bool, eqb-true, eq-eqb}
-use Rattle.rules.specs.Semantics.{Mem}
+use Rattle.rules.specs.Semantics.{Mem, member}
 use Rattle.rules.proofs.Bitwise.{mem_below, mem_and, mem_and_left, mem_and_right, mem_or_left, mem_or_right, mem_or_cases, not_in_zero}
 use Rattle.rules.proofs.Computed.{kept_mem, mem_kept}
 use Rattle.steps.specs.Parts.{SetOf}
 use Rattle.steps.proofs.SetOfs.{set_same}
 use Rattle.lanes.specs.declared.members.Members.{Members}
-use Rattle.lanes.specs.Members.{holds_member, member_list}
+use Rattle.lanes.specs.Members.{member_list}
 use Rattle.lanes.proofs.LaneSets.{set_full}
 use Rattle.lanes.proofs.Lowest.{dropped, dropped_not, dropped_other, dropped_was}
 
@@ -30,11 +30,11 @@ in_range a (suc n) j l h = ⊎_elim (λ e. Memᴰ.head e) (λ ne. Memᴰ.tail (i
 
 pub listed : (set j : ℕ) → set < 2 ^ 32 → Mem j set → Memᴰ j (member_list set)
 unfolding member_list
-listed set j small m = let b = mem_below 32 set j small m in kept_mem (holds_member set) j (range_with_len 0 32) (in_range 0 32 j (omega arith) (omega arith)) (eq-eqb (set / 2 ^ j % 2) 1 m)
+listed set j small m = let b = mem_below 32 set j small m in kept_mem (λ i. member i set) j (range_with_len 0 32) (in_range 0 32 j (omega arith) (omega arith)) (eq-eqb (set / 2 ^ j % 2) 1 m)
 
 pub listed_only : (set j : ℕ) → Memᴰ j (member_list set) → Mem j set
 unfolding member_list
-listed_only set j m = eqb-true (set / 2 ^ j % 2) 1 (mem_kept (holds_member set) j (range_with_len 0 32) m).1
+listed_only set j m = eqb-true (set / 2 ^ j % 2) 1 (mem_kept (λ i. member i set) j (range_with_len 0 32) m).1
 
 -- what the iterator gives
 pub road : (s : Members) (set : ℕ) → s.rest ≡ set → YieldsList (YieldsFirst (λ (t : Members). member_list t.rest)) (λ (j : ℕ). j) s (member_list set)
@@ -87,23 +87,23 @@ first_listed set small some =
     let full : 0 < set = ⊎_elim (λ l. l) (λ l. absurd (some (omega arith))) (cases_lt 0 set) in
     let first = bit_at-trailing_zeros w32 set full small in
     let inside = first.0 in
-    first_out (holds_member set) (holds_member (dropped set)) t 0 32 (omega arith) (omega arith)
+    first_out (λ i. member i set) (λ i. member i (dropped set)) t 0 32 (omega arith) (omega arith)
     (test_true set t first.1)
     (test_false (dropped set) t (dropped_not 32 set small full))
     (λ j l. let out : Mem j set → ⊥ = λ k. let zero_there = first.2 j l in omega arith in (test_false set j out, test_false (dropped set) j (λ k. out (dropped_was set j k))))
     (λ j l. same_test set (dropped set) j (λ k. dropped_other 32 set j small full k (λ e. absurd (omega arith))) (dropped_was set j))
   where
-    test_true : (s j : ℕ) → Mem j s → holds_member s j ≡ true
+    test_true : (s j : ℕ) → Mem j s → member j s ≡ true
     test_true s j k = eq-eqb (s / 2 ^ j % 2) 1 k
 
-    test_false : (s j : ℕ) → (Mem j s → ⊥) → holds_member s j ≡ false
-    test_false s j f = ⊎_elim (λ e. absurd (f (eqb-true (s / 2 ^ j % 2) 1 e))) (λ e. e) (cases_Bool (holds_member s j))
+    test_false : (s j : ℕ) → (Mem j s → ⊥) → member j s ≡ false
+    test_false s j f = ⊎_elim (λ e. absurd (f (eqb-true (s / 2 ^ j % 2) 1 e))) (λ e. e) (cases_Bool (member j s))
 
-    same_test : (s u j : ℕ) → (Mem j s → Mem j u) → (Mem j u → Mem j s) → holds_member s j ≡ holds_member u j
+    same_test : (s u j : ℕ) → (Mem j s → Mem j u) → (Mem j u → Mem j s) → member j s ≡ member j u
     same_test s u j f g = ⊎_elim
         (λ e. e ∙ sym (test_true u j (f (eqb-true (s / 2 ^ j % 2) 1 e))))
         (λ e. e ∙ sym (test_false u j (λ k. true≢false (sym (test_true s j (g k)) ∙ e))))
-        (cases_Bool (holds_member s j))
+        (cases_Bool (member j s))
 
 pub none_listed : member_list 0 ≡ []
 unfolding member_list

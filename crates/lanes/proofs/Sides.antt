@@ -1,7 +1,8 @@
 -- Bits of a lane's number.
-use Rattle.std.proofs.Common.{◌≡◌, ℕ, zero, suc, ◌+◌, ◌-◌, ◌/◌, ◌%◌, ◌^◌, ◌<◌, ◌≤◌, Bool, true, ◌&&◌, eqb, ltb, List, [], ◌∷◌, get_or, sym, refl, ap, ◌∙◌, ⊎_elim, arith}
+use Rattle.std.proofs.Common.{◌≡◌, ℕ, zero, suc, ◌+◌, ◌-◌, ◌*◌, ◌/◌, ◌%◌, ◌^◌, ◌<◌, ◌≤◌, Bool, true, ◌&&◌, eqb, ltb, List, [], ◌∷◌, get_or, sym, refl, ap, ◌∙◌, ⊎_elim, add-one, arith}
 use lib.Bits.{bit_or}
-use Rattle.std.proofs.lemmas.Nat.{shr-shr}
+use lib.Count.{ones, ones_step}
+use Rattle.std.proofs.lemmas.Nat.{mod-pow-add, shr-shr}
 use Rattle.std.proofs.lemmas.Bool.{cases_lt, and_parts, eqb-true, ltb-true}
 use Rattle.rules.specs.Semantics.{Mem}
 use Rattle.rules.proofs.Bitwise.{mem_below, mem_or_right, mem_or_cases, two}
@@ -66,6 +67,21 @@ pub takes_same : (s : Side) {Q R : ℕ → Type 0} → ((l : ℕ) → Q l → R 
 takes_same In f g t = λ l h. f l (t l h)
 takes_same Out f g t = λ l h r. t l h (g l r)
 takes_same (Varying w) f g t = record { all = λ l h. t.all l (h.0, g l h.1); only = λ l m. let h = t.only l m in (h.0, f l h.1) }
+
+-- the matters of a set below a, counted
+pub rank_counted : (m a : ℕ) → ones (m % 2 ^ a) ≡ rank m a
+unfolding rank ones
+rank_counted m zero = let z : m % 1 ≡ 0 = omega arith in ap ones z
+rank_counted m (suc a) =
+    let low = m % 2 ^ (a + 1) in
+    let p : low ≡ (m / 2 % 2 ^ a) * 2 + m % 2 = mod-pow-add m a 1 in
+    let h : low / 2 ≡ m / 2 % 2 ^ a = omega (arith, p) in
+    let l : low % 2 ≡ m % 2 = omega (arith, p) in
+    let s = ones_step low in
+    let q = ap ones h in
+    let i = rank_counted (m / 2) a in
+    let t = ap (λ (x : ℕ). ones (m % 2 ^ x)) (add-one a) in
+    omega arith
 
 -- a candidate has an undecided matter if its number has the bit of the matter's rank, and any other as it is
 pub has_by_bit : (y u t a k : ℕ) → a < 16 → k ≡ rank u a → Mem a u → Mem k t → Mem a (bit_or y (part 16 u t))

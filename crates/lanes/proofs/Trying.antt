@@ -1,12 +1,13 @@
 -- The rules that a trial has about a matter, and sweeps over the matters.
-use Rattle.std.proofs.Common.{◌≡◌, ℕ, ◌+◌, ◌-◌, ◌^◌, ◌<◌, ◌≤◌, true, not, eqb, List, length, get_or, drop, filter, sym, ap, ◌∙◌, subst, ⊎_elim, arith, length-drop}
+use Rattle.std.proofs.Common.{◌≡◌, ℕ, ◌+◌, ◌-◌, ◌^◌, ◌<◌, ◌≤◌, true, not, eqb, List, length, get_or, Ok, Err, Result, drop, filter, sym, ap, ◌∙◌, subst, ⊎_elim, arith, length-drop}
 use lib.Bits.{bit_and}
+use Rattle.std.specs.Result.{MatchResult}
 use Rattle.std.proofs.lemmas.List.{length-take-le}
 use Rattle.std.proofs.lemmas.Bool.{cases_lt, and_from, and_parts, eqb-true, eq-eqb}
 use Rattle.rules.specs.declared.rule.Rule.{Rule}
 use Rattle.rules.specs.declared.table.Table.{Table}
 use Rattle.rules.specs.Held.{held}
-use Rattle.rules.specs.Semantics.{Mem, LiteralSet, ◌∈◌, Overruling, body, holds, struck, Formed}
+use Rattle.rules.specs.Semantics.{LiteralSet, ◌∈◌, Overruling, body, holds, struck, Formed}
 use Rattle.rules.proofs.Bitwise.{mem_and, mem_and_left, mem_and_right, mem_below, not_in_zero}
 use Rattle.rules.proofs.Computed.{kept_mem, mem_kept}
 use Rattle.steps.specs.Parts.{SetOf, Members}
@@ -14,7 +15,7 @@ use Rattle.lanes.specs.declared.trial.Trial.{Trial}
 use Rattle.lanes.specs.Contesting.{About}
 use Rattle.lanes.specs.Docketing.{about, group}
 use Rattle.lanes.specs.Settling.{Stands}
-use Rattle.lanes.specs.Trying.{Sound, StandFrom}
+use Rattle.lanes.specs.Trying.{Sound, StandFrom, Sweeps}
 
 pub struck_in : {P : List Rule} (r : Rule) → r ∈ struck P → (r ∈ P) × (not (holds (body r) r.sign r.head) ≡ true)
 unfolding struck
@@ -75,12 +76,32 @@ module _ (P : List Rule) (over : Overruling) (n : ℕ) (X : ℕ → LiteralSet) 
         (x.0, λ c p q. ⊎_elim (λ k. x.1 c p k) (λ k. let e : c ≡ j = omega arith in subst (Stands (struck P) over n (X l)) (sym e) y.1) (cases_lt c j));
   }
 
-  -- where no lane is left, none stands to the end either
-  pub sweep_none : (j k v : ℕ) → v ≡ 0 → j ≤ k → SetOf v (StandFrom P over n X i j w) → SetOf 0 (StandFrom P over n X i k w)
-  sweep_none j k v z jk a = record {
-    all = λ l h. subst (Mem l) z (a.all l (h.0, λ c p q. h.1 c p (omega arith)));
-    only = λ l h. absurd (not_in_zero l h);
-  }
+  pub sweep_none : (j v : ℕ) → v ≡ 0 → SetOf v (StandFrom P over n X i j w) → SetOf 0 (StandFrom P over n X i j w)
+  sweep_none j v z a = subst (λ (x : ℕ). SetOf x (StandFrom P over n X i j w)) z a
 
   pub sweep_end : (j k v : ℕ) → j ≡ k → SetOf v (StandFrom P over n X i j w) → SetOf v (StandFrom P over n X i k w)
   sweep_end j k v e a = subst (λ (x : ℕ). SetOf v (StandFrom P over n X i x w)) e a
+
+-- Two sweeps: from a matter on, and up to it
+
+module _ (P : List Rule) (over : Overruling) (n : ℕ) (X : ℕ → LiteralSet) (w : ℕ) where
+  -- the lanes in which all matters stand, or none
+  abbrev pub AllStand : Result ℕ ℕ → Type 0
+  AllStand (Ok v) = SetOf v (StandFrom P over n X 0 n w)
+  AllStand (Err a) = SetOf 0 (StandFrom P over n X 0 n w)
+
+  pub both_swept : (first : ℕ) (next : ℕ → Type 0) (r q : Result ℕ ℕ) → first ≤ n → Sweeps P over n X first n w r → MatchResult r next (λ e. q ≡ Err e) → ((a : ℕ) → next a → Sweeps P over n X 0 first a q) → AllStand q
+  both_swept first next (Ok a) (Ok v) inside s m f =
+      let t = f a m in record {
+        all = λ l h. t.0.all l (s.0.all l (h.0, λ b _ k. h.1 b (omega arith) k), λ b p k. h.1 b p (omega arith));
+        only = λ l h. let x = t.0.only l h in let y = s.0.only l x.0 in (y.0, λ b p k. ⊎_elim (λ c. x.1 b p c) (λ c. y.1 b c k) (cases_lt b first));
+      }
+  both_swept first next (Ok a) (Err e) inside s m f =
+      let t = f a m in record {
+        all = λ l h. t.none.all l (s.0.all l (h.0, λ b _ k. h.1 b (omega arith) k), λ b p k. h.1 b p (let c = t.below in omega arith));
+        only = λ l h. absurd (not_in_zero l h);
+      }
+  both_swept first next (Err e) q inside s m f = subst AllStand (sym m) (record {
+    all = λ l h. s.none.all l (h.0, λ b _ k. h.1 b (omega arith) (let c = s.below in omega arith));
+    only = λ l h. absurd (not_in_zero l h);
+  })

@@ -3,6 +3,7 @@ ghost use Rattle.lanes.specs.Firing.{Low};
 
 use arrayvec::ArrayVec;
 use rules::matters::MOST_MATTERS;
+use rules::table::MOST_RULES;
 
 pub mod calls;
 pub mod closure;
@@ -17,7 +18,7 @@ pub struct Firing {
 }
 
 // One for each rule, and one for each matter's default.
-pub const MOST_FIRINGS: usize = 272;
+pub const MOST_FIRINGS: usize = MOST_RULES + MOST_MATTERS;
 
 #[derive(Drop)]
 pub struct Firings {
@@ -26,7 +27,7 @@ pub struct Firings {
 }
 
 // For each matter the lanes in which its literal is reached.
-#[derive(Clone, Copy, PartialEq)]
+#[derive(Clone, Copy, PartialEq, Eq)]
 pub struct Reach {
     pub words: [u64; MOST_MATTERS],
     ghost whole: { length words ≡ 16 },

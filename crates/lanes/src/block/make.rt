@@ -19,12 +19,8 @@ impl Block {
         ensures { Has (λ l. settled matters (bit_or yes (part 16 undecided (first + l)))) result }
     {
         let mut block = Block::empty();
-        let mut rank = 0;
         for a in 0..matters {
-            block.put(a, side_of(yes, undecided, first, a, rank));
-            if has(undecided.into(), a) {
-                rank += 1;
-            }
+            block.put(a, side_of(yes, undecided, first, a));
         }
         block
     }
@@ -68,19 +64,26 @@ impl Block {
     }
 }
 
-// Which of the candidates have the matter, if it is undecided as the one of this rank.
-fn side_of(yes: u16, undecided: u16, first: u32, a: u8, rank: u8) -> Side
+// Which of the candidates have the matter.
+fn side_of(yes: u16, undecided: u16, first: u32, a: u8) -> Side
     requires matter { a < 16 }
-    requires rank { rank ≡ rank_of undecided a }
     requires first { first % 64 ≡ 0 }
     requires apart { Mem a yes → Mem a undecided → ⊥ }
     ensures { Takes result (λ l. Mem a (bit_or yes (part 16 undecided (first + l)))) }
 {
     if has(undecided.into(), a) {
-        side_of_bit(rank, first)
+        side_of_bit(rank(undecided, a), first)
     } else if has(yes.into(), a) {
         Side::In
     } else {
         Side::Out
     }
+}
+
+// How many matters of the set are below this one.
+fn rank(set: u16, a: u8) -> u8
+    requires { a < 16 }
+    ensures { result ≡ rank_of set a }
+{
+    (set & ((1 << a) - 1)).count_ones() as u8
 }

@@ -4,7 +4,7 @@ ghost use Rattle.rules.specs.Semantics.{LiteralSet as Literals, ◌∈◌, oppos
 ghost use Rattle.steps.specs.Parts.{SetOf, Tabled, Members};
 ghost use Rattle.lanes.specs.Blocks.{Has};
 ghost use Rattle.lanes.specs.Claiming.{Among};
-ghost use Rattle.lanes.specs.Contesting.{side, Hears, Unrejected, About};
+ghost use Rattle.lanes.specs.Contesting.{side, Contested, Hears, Unrejected, About};
 ghost use Rattle.lanes.specs.Founding.{Live};
 ghost use Rattle.lanes.specs.Settling.{Stands};
 
@@ -24,6 +24,7 @@ impl<'a> Contest<'a> {
     ) -> Contest<'a>
         requires { (r : SomeRule) → r ∈ rules.now → r.sheet < 32 }
         ensures rules { result.rules.now ≡ rules.now }
+        ensures contested { (X : ℕ → Literals) → Has X block.now → Contested X result }
         ensures hears { (Q : List SomeRule) (over : Overruling) (X : ℕ → Literals) (a : ℕ) → Has X block.now → Tabled over overrulers.now → Members rules.now (About Q a) → Hears Q over X a result }
     {
         let yes = Claimants::of(rules, Sign::Yes, block);

@@ -4,6 +4,7 @@ ghost use Rattle.rules.specs.Semantics.{body, holds, Formed};
 ghost use Rattle.lanes.specs.Docketing.{about as rule_about, group, Docketed};
 
 use crate::docket::{Docket, STARTS};
+use rules::matters::MOST_MATTERS;
 use rules::rule::{Rule, Sign};
 use rules::sets::has;
 use rules::table::Table;
@@ -15,7 +16,7 @@ impl Docket {
         ensures { Docketed rules.now 16 result }
     {
         let mut docket = Docket::empty();
-        for matter in 0..16 {
+        for matter in 0..MOST_MATTERS as u8 {
             docket.add(rules, matter);
         }
         docket
@@ -56,7 +57,7 @@ impl Docket {
     }
 }
 
-// Adds the rules about the matter to the table.
+// Adds the rules about the matter to the table. `Table::filtered` is of no use: it makes a table, and this one goes on.
 fn gather(table: &mut Table, rules: &[Rule], matter: u8)
     requires room { length (held table.old) + length (filter (rule_about matter) rules.now) ≤ 256 }
     requires formed { Formed 16 rules.now }

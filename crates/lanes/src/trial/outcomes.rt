@@ -6,7 +6,14 @@ ghost use Rattle.lanes.specs.Trying.{Sound, Tries};
 
 use crate::block::Block;
 use crate::trial::Trial;
-use crate::trial::sweep::Swept;
+
+// The lanes that are left, and the matter to begin the next sweep at. No Option of lanes: a guess comes with some lanes and
+// with none.
+#[derive(Clone, Copy)]
+pub struct Swept {
+    pub lanes: u64,
+    pub at: u8,
+}
 
 impl Trial {
     // Of these lanes, those whose candidate is an outcome. The sweep over the matters begins at `first`, a guess at one
@@ -16,15 +23,15 @@ impl Trial {
         ensures { (P : List SomeRule) (over : Overruling) (M : ℕ → ℕ) → Total over → Tries P over M self.now block.now → SetOf result.lanes (λ l. Mem l lanes × Outcome P over self.now.matters (M l)) }
     {
         let first = if first < self.matters { first } else { 0 };
-        let above = self.sweep(block, first, self.matters, lanes);
-        if above.lanes == 0 {
-            return above;
+        let swept = self
+            .sweep(block, first, self.matters, lanes)
+            .and_then(|above| self.sweep(block, 0, first, above));
+        match swept {
+            Ok(standing) => Swept {
+                lanes: self.founded(block, standing),
+                at: first,
+            },
+            Err(at) => Swept { lanes: 0, at },
         }
-        let standing = self.sweep(block, 0, first, above.lanes);
-        if standing.lanes == 0 {
-            return standing;
-        }
-        let lanes = self.founded(block, standing.lanes);
-        Swept { lanes, at: first }
     }
 }

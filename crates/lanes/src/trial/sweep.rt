@@ -3,38 +3,27 @@ ghost use Rattle.rules.specs.declared.rule.Rule.{Rule as SomeRule};
 ghost use Rattle.rules.specs.Semantics.{LiteralSet as Literals, Overruling, struck};
 ghost use Rattle.steps.specs.Parts.{SetOf};
 ghost use Rattle.lanes.specs.Settling.{Stands};
-ghost use Rattle.lanes.specs.Trying.{Sound, Facing, StandFrom};
+ghost use Rattle.lanes.specs.Trying.{Sound, Facing, Sweeps};
 
 use crate::block::Block;
 use crate::trial::Trial;
 
-// The lanes that are left, and the matter at which the sweep ended. No Option of lanes: a next guess comes with some lanes and
-// with none.
-#[derive(Clone, Copy)]
-pub struct Swept {
-    pub lanes: u64,
-    pub at: u8,
-}
-
 impl Trial {
-    // The lanes in which each matter from `from` up to `to` stands. It ends as soon as there is none.
-    pub fn sweep(&self, block: &Block, from: u8, to: u8, lanes: u64) -> Swept
+    // Of these lanes, those in which each matter from `from` up to `to` stands, or the first matter that leaves none of them.
+    pub fn sweep(&self, block: &Block, from: u8, to: u8, lanes: u64) -> Result<u64, u8>
         requires sound { (P : List SomeRule) × Sound P self.now }
         requires rising { from ≤ to }
         requires inside { to ≤ 16 }
-        ensures { (P : List SomeRule) (over : Overruling) (X : ℕ → Literals) → Facing P over X self.now block.now → to ≤ self.now.matters → SetOf result.lanes (StandFrom P over self.now.matters X from to lanes) }
+        ensures { (P : List SomeRule) (over : Overruling) (X : ℕ → Literals) → Facing P over X self.now block.now → to ≤ self.now.matters → Sweeps P over self.now.matters X from to lanes result }
     {
         let mut lanes = lanes;
         for matter in from..to {
             lanes &= self.standing(block, matter);
             if lanes == 0 {
-                return Swept {
-                    lanes: 0,
-                    at: matter,
-                };
+                return Err(matter);
             }
         }
-        Swept { lanes, at: 0 }
+        Ok(lanes)
     }
 
     // The lanes in which the matter stands.

@@ -7,14 +7,14 @@ use Rattle.steps.proofs.Subsets.{rank_le, part_within}
 use Rattle.lanes.proofs.block.make.side_of.Goals as goal
 
 pub side_of_bit-requires-clause-bit : goal.side_of_bit-requires-clause-bit
-side_of_bit-requires-clause-bit c = let r = rank_le c.args.undecided c.args.a in let e = c.requires.rank in let l = c.requires.matter in omega arith
+side_of_bit-requires-clause-bit c = let r = rank_le c.args.undecided c.args.a in let e = c.rank.ensures in let l = c.requires.matter in omega arith
 
 pub returns-then-has : goal.returns-then-has
 returns-then-has c =
     let u = subst (Mem c.args.a) c.into.ensures (c.has.ensures.0 c.if-has.true) in
     takes_same c.side_of_bit.result
-    (λ l m. has_by_bit c.args.yes c.args.undecided _ c.args.a c.args.rank c.requires.matter c.requires.rank u m)
-    (λ l m. bit_by_has c.args.yes c.args.undecided _ c.args.a c.args.rank c.requires.matter c.requires.rank (λ y. c.requires.apart y u) m)
+    (λ l m. has_by_bit c.args.yes c.args.undecided _ c.args.a c.rank.result c.requires.matter c.rank.ensures u m)
+    (λ l m. bit_by_has c.args.yes c.args.undecided _ c.args.a c.rank.result c.requires.matter c.rank.ensures (λ y. c.requires.apart y u) m)
     c.side_of_bit.ensures
 
 pub returns-then-has-2 : goal.returns-then-has-2
