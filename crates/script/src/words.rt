@@ -51,6 +51,7 @@ impl fmt::Display for Said<&[u16]> {
     }
 }
 
+// A reading and a ruling by number and in words: their numbers are methods of their own, so one impl for both would first need a trait.
 impl fmt::Display for Said<Reading> {
     fn fmt<W: fmt::Write>(&self, f: &mut fmt::Formatter<W>) -> fmt::Result {
         write!(f, "{}, {}", self.0.number(), self.0)
