@@ -1,4 +1,4 @@
-ghost use Rattle.std.specs.Prelude.{◌≡◌, ◌-◌, ◌^◌, min};
+ghost use Rattle.std.specs.Prelude.{◌≡◌, ◌-◌, ◌^◌, ◌≤◌};
 ghost use Rattle.rules.specs.Records.{allowed};
 
 // The most matters that a rack may have: a set has a bit for each.
@@ -13,7 +13,8 @@ pub fn may_have(matters: u8) -> bool
 
 // The set of the first so many matters; past the most that a rack may have, of all of these.
 pub fn all_matters(matters: u8) -> u16
-    ensures { result ≡ 2 ^ min matters 16 - 1 }
+    ensures few { matters ≤ 16 → result ≡ 2 ^ matters - 1 }
+    ensures more { 16 ≤ matters → result ≡ 2 ^ 16 - 1 }
 {
     if usize::from(matters) < MOST_MATTERS {
         (1 << matters) - 1

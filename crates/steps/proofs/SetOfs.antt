@@ -1,4 +1,4 @@
--- For a loop that gathers a set: it has those of the first i that are wanted, and no other.
+-- Sets by what they have.
 use Rattle.std.proofs.Common.{◌≡◌, ℕ, zero, suc, ◌/◌, ◌%◌, ◌^◌, ◌<◌, not, eqb, get_or, replicate, Decides, sym, refl, ◌∙◌, subst, ⊎_elim, arith}
 use native.Mathlib.Nat.{pow-succ'}
 use lib.Bits.{bit_and}
@@ -10,6 +10,10 @@ use Rattle.steps.specs.Parts.{SetOf}
 -- the same set, said otherwise
 pub set_same : {was wanted : ℕ → Type 0} {m : ℕ} → ((b : ℕ) → was b → wanted b) → ((b : ℕ) → wanted b → was b) → SetOf m was → SetOf m wanted
 set_same f g s = record { all = λ b w. s.all b (g b w); only = λ b h. f b (s.only b h) }
+
+-- sets of the same are equal
+pub set_unique : {wanted : ℕ → Type 0} {m k : ℕ} → SetOf m wanted → SetOf k wanted → m ≡ k
+set_unique {m} {k} s t = same_members m k (λ a h. t.all a (s.only a h)) (λ a h. s.all a (t.only a h))
 
 -- a set is empty, or has some member
 pub empty_zero : (m : ℕ) → ((a : ℕ) → Mem a m → ⊥) → m ≡ 0

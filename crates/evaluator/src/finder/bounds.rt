@@ -1,7 +1,8 @@
-ghost use Rattle.std.specs.Prelude.{◌≡◌, ◌-◌, ◌^◌, ◌≤◌, if◌then◌else◌, bit_and, count_ones, nat_eq};
+ghost use Rattle.std.specs.Prelude.{◌≡◌, ◌^◌, ◌≤◌, if◌then◌else◌, bit_and, count_ones, nat_eq};
 ghost use Rattle.steps.specs.Parts.{SetOf};
 ghost use Rattle.steps.specs.Subsets.{part, Undecided};
 
+use rules::matters::all_matters;
 use rules::rule::LiteralSet;
 use rules::sets::has;
 use steps::bits::with_matter;
@@ -35,15 +36,4 @@ pub fn numbered(set: u16, number: u32) -> u16
         chosen = with_matter(chosen, a, has(number.into(), place as u8));
     }
     chosen
-}
-
-pub fn all_matters(matters: u8) -> u16
-    requires { matters ≤ 16 }
-    ensures { result ≡ 2 ^ matters - 1 }
-{
-    if matters < 16 {
-        (1 << matters) - 1
-    } else {
-        u16::MAX
-    }
 }

@@ -4,7 +4,8 @@ ghost use Rattle.rules.specs.Semantics.{Overruling, Outcome};
 ghost use Rattle.steps.specs.Parts.{Ready, Tabled};
 ghost use Rattle.steps.specs.Subsets.{part};
 
-use crate::finder::bounds::{all_matters, numbered};
+use crate::finder::bounds::numbered;
+use rules::matters::all_matters;
 use rules::table::{MOST_SHEETS, Table};
 use steps::program::Program;
 use steps::step::step;

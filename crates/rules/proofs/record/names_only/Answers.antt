@@ -1,5 +1,4 @@
-use Rattle.std.proofs.Common.{◌≡◌, ◌-◌, ◌^◌, ◌≤◌, sym, ◌∙◌, ⊎_elim, arith, pow_mono}
-use Rattle.std.proofs.Math.Nat.{min-eq_left, min-eq_right}
+use Rattle.std.proofs.Common.{◌^◌, ◌≤◌, sym, ◌∙◌, ⊎_elim, arith, pow_mono}
 use Rattle.std.proofs.lemmas.Nat.{pow_pos}
 use Rattle.std.proofs.lemmas.Bool.{le-leb, lt-leb, lt-ltb, le-ltb, cases_lt}
 use Rattle.rules.proofs.record.names_only.Goals as goal
@@ -9,15 +8,12 @@ pub returns : goal.returns
 returns c =
     let s = c.args.set in
     let n = c.args.matters in
-    let all = c.all_matters.ensures in
     let r = c.all_matters.result in
     let some = pow_pos n in
     ⊎_elim
-    (λ l. let e = min-eq_left {n = n} {m = 16} (omega arith) in
-    let w : r ≡ 2 ^ n - 1 = rw e at all in
+    (λ l. let w = c.all_matters.ensures.few (omega arith) in
     ⊎_elim (λ k. le-leb s r (omega arith) ∙ sym (lt-ltb s (2 ^ n) k)) (λ k. lt-leb s r (omega arith) ∙ sym (le-ltb s (2 ^ n) k)) (cases_lt s (2 ^ n)))
-    (λ g. let e = min-eq_right {n = 16} {m = n} g in
-    let w : r ≡ 2 ^ 16 - 1 = rw e at all in
+    (λ g. let w = c.all_matters.ensures.more g in
     let p : 2 ^ 16 ≤ 2 ^ n = pow_mono g in
     le-leb s r (omega arith) ∙ sym (lt-ltb s (2 ^ n) (omega arith)))
     (cases_lt n 16)

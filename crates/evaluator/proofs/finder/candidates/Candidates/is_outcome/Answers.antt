@@ -8,7 +8,7 @@ use Rattle.evaluator.proofs.finder.candidates.Candidates.is_outcome.Goals as goa
 
 pub returns : goal.returns
 returns c = λ over t.
-    let e = ap {B = LiteralSet} (λ (k : ℕ). (c.args.m, k - c.args.m)) c.all_matters.ensures in
+    let e = ap {B = LiteralSet} (λ (k : ℕ). (c.args.m, k - c.args.m)) (c.all_matters.ensures.few c.args.self.now.ready.few_matters) in
     let s : Step (held c.args.self.now.table) over c.args.self.now.matters (c.args.m, c.all_matters.result - c.args.m) c.step.result =
     subst (λ (P : List Rule). Step P over c.args.self.now.matters (c.args.m, c.all_matters.result - c.args.m) c.step.result) c.program.ensures.rules
     (subst (λ (n : ℕ). Step c.program.result.rules.now over n (c.args.m, c.all_matters.result - c.args.m) c.step.result) c.program.ensures.matters (c.step.ensures over t)) in
