@@ -89,6 +89,7 @@ impl Slip {
     }
 
     // Adds the facts to a table, as rules of the sheet with this number.
+    // No `for_each`: after it a proof knows nothing of the table.
     pub(crate) fn append_to(&self, table: &mut Table, sheet: u8)
         requires { length (held table.old) + length self.now.facts.items ≤ 256 }
         ensures { held table.new ≡ held table.old ++ map (fact_rule sheet) self.now.facts.items }

@@ -121,6 +121,7 @@ fn on_top(below: Shape, own: Shape) -> Shape
 }
 
 // Adds own rules to those below, their sheets counted from `floor` on.
+// No `for_each`: after it a proof knows nothing of the table.
 fn append(table: &mut Table, own: &[Rule], floor: u8)
     requires room { length (held table.old) + length own.now ≤ 256 }
     requires low { Throughout (λ r. floor + r.sheet < 256) own.now }

@@ -6,7 +6,8 @@ use crate::fault::RackFault;
 use rules::record::Record;
 use rules::rule::Shape;
 
-// Why a rule is not laid on these sheets, which have so many places. The one place where a rule is refused.
+// Why a rule is not laid on sheets of this shape, which have so many places: the refusals in their order, for the pocket rack and the
+// amended layer alike.
 pub fn admit(sheets: Shape, places: usize, record: Record) -> Result<(), RackFault>
     ensures { Judged rack_number (admit_table sheets places «record») (λ _. Unit {0}) (Unit {0}) result }
 {

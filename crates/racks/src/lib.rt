@@ -1,4 +1,4 @@
-// Racks: piles of sheets of rules, and those that are read from a packed file.
+// Racks: piles of sheets of rules; numbered sheets, which rules are laid on; and the rack of a packed file.
 #![tactic(auto)]
 
 pub mod file;

@@ -18,7 +18,7 @@ pub trait Rack {
     fn rule(&self, place: u16) -> Option<Rule>
         ensures { result ≡ slice_get (meaning self.now).rules place };
 
-    // All rules in order. A layer writes its own, so that a pile is read once through.
+    // All rules in order, asked for by their places: a rack need hold no slice. A layer writes its own, so that a pile is read once through.
     fn read(&self) -> Table
         ensures { held result ≡ (meaning self.now).rules }
     {

@@ -86,6 +86,7 @@ fn digit(held: bool) -> u8
     if held { b'1' } else { b'0' }
 }
 
+// By the two tests, as `Reading` is made by the evaluator alone, of a rack.
 fn letter(yes: bool, no: bool) -> u8
     ensures { result ≡ reading yes no }
 {

@@ -5,7 +5,7 @@ use kiosk::ticket::Ticket;
 use laying::open_rack::OpenRack;
 use std::alloc::AllocError;
 
-// What one call answered; a listing comes with its list.
+// What one call answered; a listing comes with its list, which has a place for more than were counted.
 #[derive(Drop)]
 pub enum Answer {
     Done(Result<(), KioskFault>),

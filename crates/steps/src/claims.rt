@@ -7,7 +7,7 @@ use rules::matters::MOST_MATTERS;
 use rules::rule::{LiteralSet, Rule, Sign};
 
 // A sheet claims a literal in a set if it has a rule with that head, rejected or not, whose body is true there.
-// For each matter: the sheets that claim it, and those that claim its negation.
+// For each matter: the sheets that claim it, and those that claim its negation. Two arrays, since a sign picks one of them.
 #[derive(Clone, Copy)]
 pub struct Claims {
     yes: [u32; MOST_MATTERS],

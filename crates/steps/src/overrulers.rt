@@ -8,7 +8,7 @@ use rules::sets::has;
 use rules::table::MOST_SHEETS;
 use std::array;
 
-// The order, asked once for each two sheets. Both tables have for each sheet a set of sheets.
+// The order, asked once for each two sheets. Both tables have for each sheet a set of sheets. A step takes one table and not the other.
 #[derive(Clone, Copy)]
 pub struct Overrulers {
     // Those that overrule it.

@@ -80,6 +80,7 @@ impl<R: OpenRack> Kiosk<R> {
     }
 
     // Writes a fact on the slip. A second fact on a matter changes the sign of the first where it lies.
+    // The sign is a plain number, since one above 1 is answered by a refusal.
     pub fn fact(&mut self, matter: u8, sign: u8) -> Result<(), KioskFault>
         ensures { Does (step (book_of R.OpenRack.state self.old) (FactCall matter sign)) result (book_of R.OpenRack.state self.new) }
     {

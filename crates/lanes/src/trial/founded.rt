@@ -8,6 +8,7 @@ use crate::block::Block;
 use crate::firing::Firings;
 use crate::trial::Trial;
 use crate::words::all_of;
+use rules::matters::all_matters;
 
 impl Trial {
     // Of these lanes, those in which the closure reaches the literals of all matters.
@@ -17,7 +18,7 @@ impl Trial {
     {
         let firings = self.firings(block, lanes);
         let reach = firings.reach();
-        lanes & all_of(&reach.words, (1u32 << self.matters) - 1)
+        lanes & all_of(&reach.words, all_matters(self.matters).into())
     }
 
     // What the rules give in these lanes.

@@ -35,6 +35,7 @@ impl PocketRack {
     }
 }
 
+// Each call is the sheets' own: an `impl` cannot be delegated, and one for all that hold sheets would be no shorter.
 impl Rack for PocketRack {
     ghost meaning = { pocket_meaning };
 

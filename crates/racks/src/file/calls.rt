@@ -30,6 +30,7 @@ impl FileRack {
     }
 }
 
+// Each call is the sheets' own: an `impl` cannot be delegated, and one for all that hold sheets would be no shorter.
 impl Rack for FileRack {
     ghost meaning = { file_meaning };
 

@@ -34,6 +34,8 @@ impl Sheets {
         })
     }
 
+    // The calls below answer none where nothing is done. Which refusal that is, each rack that has the sheets says in its own words.
+
     // A new sheet on top, with no rule yet; none where the sheets are at their limit.
     pub fn begin(&mut self) -> Option<()>
         ensures { Changes beginnable begun (sheets_meaning self.old) result (sheets_meaning self.new) }
