@@ -6,6 +6,7 @@ use orders::order::Order;
 use racks::rack::Rack;
 
 // Lists the outcomes that the rack's sheets allow under the order, ascending, and answers their count.
+// Into a list that is given: with no heap, no call can fail for want of memory.
 pub fn outcomes<R: Rack, O: Order>(
     rack: &R,
     order: &O,

@@ -89,7 +89,8 @@ impl Slip {
     }
 
     // Adds the facts to a table, as rules of the sheet with this number.
-    // No `for_each`: after it a proof knows nothing of the table.
+    // A loop of its own, as the amended layer's is: a shared one would take a closure, with clauses longer than the loop; and after a
+    // `for_each` a proof knows nothing of the table.
     pub(crate) fn append_to(&self, table: &mut Table, sheet: u8)
         requires { length (held table.old) + length self.now.facts.items ≤ 256 }
         ensures { held table.new ≡ held table.old ++ map (fact_rule sheet) self.now.facts.items }

@@ -5,7 +5,7 @@ ghost use Rattle.rules.specs.Semantics.{◌∈◌};
 use crate::block::Block;
 use crate::claimants::Claimants;
 use rules::rule::Rule;
-use rules::table::MOST_SHEETS;
+use rules::sets::SheetSets;
 
 mod calls;
 
@@ -15,7 +15,7 @@ pub struct Contest<'a> {
     pub rules: &'a [Rule],
     block: &'a Block,
     // For each sheet, those that overrule it.
-    overrulers: &'a [u32; MOST_SHEETS],
+    overrulers: &'a SheetSets,
     yes: Claimants,
     no: Claimants,
     ghost sheets: { (r : SomeRule) → r ∈ rules.now → r.sheet < 32 },

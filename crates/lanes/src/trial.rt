@@ -1,5 +1,5 @@
 use crate::docket::Docket;
-use rules::table::MOST_SHEETS;
+use rules::sets::SheetSets;
 
 mod contest;
 mod founded;
@@ -12,5 +12,5 @@ mod sweep;
 pub struct Trial {
     pub docket: Docket,
     pub matters: u8,
-    pub overrulers: [u32; MOST_SHEETS],
+    pub overrulers: SheetSets,
 }

@@ -121,7 +121,8 @@ fn on_top(below: Shape, own: Shape) -> Shape
 }
 
 // Adds own rules to those below, their sheets counted from `floor` on.
-// No `for_each`: after it a proof knows nothing of the table.
+// A loop of its own, as the slip's is: a shared one would take a closure, with clauses longer than the loop; and after a `for_each` a
+// proof knows nothing of the table.
 fn append(table: &mut Table, own: &[Rule], floor: u8)
     requires room { length (held table.old) + length own.now ≤ 256 }
     requires low { Throughout (λ r. floor + r.sheet < 256) own.now }

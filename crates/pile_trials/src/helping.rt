@@ -27,7 +27,7 @@ pub const BAD: Record = Record {
     no: 0,
 };
 
-// How a call went; a refusal by its number.
+// How a call went; a refusal by its number, as docs/REFUSALS.md lists them.
 pub fn numbered(answer: Result<(), RackFault>) -> Result<(), u8> {
     answer.map_err(|fault| fault.number())
 }

@@ -25,7 +25,8 @@ impl fmt::Display for Layer {
     }
 }
 
-// Why a call is refused, told by a number and the layer that gave it.
+// Why a call is refused, told by a number and the layer that gave it. Each enum writes its own: a cast is of one type, and a derive of the
+// repository's own is refused.
 pub trait Refusal: Copy {
     ghost numbered: { Self → ℕ };
 

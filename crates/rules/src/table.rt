@@ -10,8 +10,8 @@ pub const MOST_SHEETS: usize = 32;
 
 pub const MOST_RULES: usize = 256;
 
-// A list of at most `MOST_RULES` rules that needs no heap, so that no call can fail for want of memory. It is no `ArrayVec`: racks and their
-// tables are `Copy`, and the `clone` of an `ArrayVec` may fail.
+// A list of at most `MOST_RULES` rules that needs no heap, so that no call can fail for want of memory. It is no `ArrayVec`: a table is
+// `Copy`, as the racks that hold one are, and the `clone` of an `ArrayVec` may fail.
 #[derive(Clone, Copy)]
 pub struct Table {
     rules: [Rule; MOST_RULES],

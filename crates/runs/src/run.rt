@@ -5,7 +5,7 @@ use kiosk::ticket::Ticket;
 use laying::open_rack::OpenRack;
 use std::alloc::AllocError;
 
-// What one call answered; a listing comes with its list, which has a place for more than were counted.
+// What one call answered. A listing keeps its whole list beside the count: the law speaks of the places past it too.
 #[derive(Drop)]
 pub enum Answer {
     Done(Result<(), KioskFault>),
@@ -32,6 +32,7 @@ pub struct Purse {
 
 // A kiosk with the answers that it gave so far and the tickets in hand.
 // `lists` are blank, of `places` places each, for the listings to come.
+// The fields are public, so what they owe one another is asked by `Pursed` and `Stocked`, and is no invariant.
 pub struct Run<R: OpenRack> {
     pub kiosk: Kiosk<R>,
     pub answers: Vec<Answer>,

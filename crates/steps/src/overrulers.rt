@@ -4,7 +4,7 @@ ghost use Rattle.steps.specs.Parts.{SetOf, Overrules, Tabled};
 
 use crate::bits::those;
 use orders::order::Order;
-use rules::sets::has;
+use rules::sets::{SheetSets, has};
 use rules::table::MOST_SHEETS;
 use std::array;
 
@@ -12,9 +12,9 @@ use std::array;
 #[derive(Clone, Copy)]
 pub struct Overrulers {
     // Those that overrule it.
-    pub broad: [u32; MOST_SHEETS],
+    pub broad: SheetSets,
     // Those of them that it does not overrule in turn.
-    pub narrow: [u32; MOST_SHEETS],
+    pub narrow: SheetSets,
     ghost whole: { length broad ≡ 32 },
     ghost complete: { length narrow ≡ 32 },
 }
@@ -39,7 +39,7 @@ fn overrulers_of<O: Order>(order: &O, i: u8) -> u32
 }
 
 // Those of them that it does not overrule in turn.
-fn one_way_overrulers_of(broad: &[u32; MOST_SHEETS], i: u8) -> u32
+fn one_way_overrulers_of(broad: &SheetSets, i: u8) -> u32
     requires { i < 32 }
     ensures { (over : Overruling) → Tabled over broad.now → SetOf result (Overrules (strictly over) i) }
 {
@@ -47,7 +47,7 @@ fn one_way_overrulers_of(broad: &[u32; MOST_SHEETS], i: u8) -> u32
 }
 
 // Whether `j` overrules `i`, and not the other way round too.
-fn one_way(broad: &[u32; MOST_SHEETS], j: u8, i: u8) -> bool
+fn one_way(broad: &SheetSets, j: u8, i: u8) -> bool
     requires j { j < 32 }
     requires i { i < 32 }
     ensures { (over : Overruling) → Tabled over broad.now → Decides result (strictly over j i ≡ true) }

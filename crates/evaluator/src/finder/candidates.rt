@@ -6,7 +6,8 @@ ghost use Rattle.steps.specs.Subsets.{part};
 
 use crate::finder::bounds::numbered;
 use rules::matters::all_matters;
-use rules::table::{MOST_SHEETS, Table};
+use rules::sets::SheetSets;
+use rules::table::Table;
 use steps::program::Program;
 use steps::step::step;
 
@@ -17,7 +18,7 @@ use steps::step::step;
 pub struct Candidates {
     pub table: Table,
     pub matters: u8,
-    pub overrulers: [u32; MOST_SHEETS],
+    pub overrulers: SheetSets,
     pub yes: u16,
     pub undecided: u16,
     ghost ready: { Ready matters (held table) },

@@ -13,15 +13,11 @@ use crate::claimants::Claimants;
 use crate::contest::Contest;
 use crate::members::members_of;
 use rules::rule::{Rule, Sign};
-use rules::table::MOST_SHEETS;
+use rules::sets::SheetSets;
 
 impl<'a> Contest<'a> {
     // The contest about a matter, by the rules about it.
-    pub fn among(
-        rules: &'a [Rule],
-        block: &'a Block,
-        overrulers: &'a [u32; MOST_SHEETS],
-    ) -> Contest<'a>
+    pub fn among(rules: &'a [Rule], block: &'a Block, overrulers: &'a SheetSets) -> Contest<'a>
         requires { (r : SomeRule) → r ∈ rules.now → r.sheet < 32 }
         ensures rules { result.rules.now ≡ rules.now }
         ensures contested { (X : ℕ → Literals) → Has X block.now → Contested X result }

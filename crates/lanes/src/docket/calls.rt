@@ -12,7 +12,6 @@ use rules::table::Table;
 impl Docket {
     pub fn of(rules: &[Rule]) -> Docket
         requires few { length rules.now ≤ 256 }
-        requires formed { Formed 16 rules.now }
         ensures { Docketed rules.now 16 result }
     {
         let mut docket = Docket::empty();
@@ -37,7 +36,6 @@ impl Docket {
     fn add(&mut self, rules: &[Rule], matter: u8)
         requires matter { matter < 16 }
         requires room { length (held self.old.rules) + length (filter (rule_about matter) rules.now) ≤ 256 }
-        requires formed { Formed 16 rules.now }
         ensures rules { held self.new.rules ≡ held self.old.rules ++ filter (rule_about matter) rules.now }
         ensures starts { self.new.starts ≡ slice_set self.old.starts (matter + 1) (length (held self.new.rules)) }
     {
@@ -60,7 +58,6 @@ impl Docket {
 // Adds the rules about the matter to the table. `Table::filtered` is of no use: it makes a table, and this one goes on.
 fn gather(table: &mut Table, rules: &[Rule], matter: u8)
     requires room { length (held table.old) + length (filter (rule_about matter) rules.now) ≤ 256 }
-    requires formed { Formed 16 rules.now }
     ensures { held table.new ≡ held table.old ++ filter (rule_about matter) rules.now }
 {
     for r in rules {
@@ -71,7 +68,6 @@ fn gather(table: &mut Table, rules: &[Rule], matter: u8)
 }
 
 fn is_about(r: Rule, matter: u8) -> bool
-    requires { r.head < 16 }
     ensures { result ≡ rule_about matter r }
 {
     r.head == matter && !is_tautology(r)
@@ -79,7 +75,6 @@ fn is_about(r: Rule, matter: u8) -> bool
 
 // Whether the head stands in the rule's own body.
 fn is_tautology(r: Rule) -> bool
-    requires { r.head < 16 }
     ensures { result ≡ holds (body r) r.sign r.head }
 {
     match r.sign {

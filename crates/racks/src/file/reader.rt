@@ -81,7 +81,7 @@ fn lay_rules(sheets: &mut Sheets, rules: &[[u8; RULE_BYTES]]) -> Result<(), File
     Ok(())
 }
 
-// The record that six bytes pack.
+// The record that six bytes pack. No `From`: neither type is this crate's.
 fn record_of(bytes: &[u8; RULE_BYTES]) -> Record
     ensures { result ≡ record_at bytes.now 0 }
 {

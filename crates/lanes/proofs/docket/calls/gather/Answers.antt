@@ -1,13 +1,9 @@
 use Rattle.std.proofs.Common.{ap, ◌∙◌}
 use Rattle.rules.specs.Held.{held}
-use Rattle.rules.proofs.Computed.{placed}
 use Rattle.lanes.specs.Docketing.{about}
 use Rattle.lanes.proofs.Docketing.{kept_push, kept_skip}
 use Rattle.lanes.proofs.docket.calls.gather.Goals as goal
 use Rattle.lanes.proofs.docket.calls.gather.Goals.{then-is_about, else-is_about}
-
-pub is_about-requires : goal.is_about-requires
-is_about-requires c = c.requires.formed _ (placed _ _ _ c.loop-r-test.true)
 
 pub loop-r-preserved : goal.loop-r-preserved
 loop-r-preserved c =
