@@ -7,7 +7,7 @@ use Rattle.std.proofs.lemmas.Bool.{cases_lt, and_from, and_parts, eqb-true, eq-e
 use Rattle.rules.specs.declared.rule.Rule.{Rule}
 use Rattle.rules.specs.declared.table.Table.{Table}
 use Rattle.rules.specs.Held.{held}
-use Rattle.rules.specs.Semantics.{LiteralSet, ◌∈◌, Overruling, body, holds, struck, Formed}
+use Rattle.rules.specs.Semantics.{Mem, LiteralSet, ◌∈◌, Overruling, body, holds, struck, Formed}
 use Rattle.rules.proofs.Bitwise.{mem_and, mem_and_left, mem_and_right, mem_below, not_in_zero}
 use Rattle.rules.proofs.Computed.{kept_mem, mem_kept}
 use Rattle.steps.specs.Parts.{SetOf, Members}
@@ -76,8 +76,12 @@ module _ (P : List Rule) (over : Overruling) (n : ℕ) (X : ℕ → LiteralSet) 
         (x.0, λ c p q. ⊎_elim (λ k. x.1 c p k) (λ k. let e : c ≡ j = omega arith in subst (Stands (struck P) over n (X l)) (sym e) y.1) (cases_lt c j));
   }
 
-  pub sweep_none : (j v : ℕ) → v ≡ 0 → SetOf v (StandFrom P over n X i j w) → SetOf 0 (StandFrom P over n X i j w)
-  sweep_none j v z a = subst (λ (x : ℕ). SetOf x (StandFrom P over n X i j w)) z a
+  -- where no lane is left, none stands to the end either
+  pub sweep_none : (j k v : ℕ) → v ≡ 0 → j ≤ k → SetOf v (StandFrom P over n X i j w) → SetOf 0 (StandFrom P over n X i k w)
+  sweep_none j k v z jk a = record {
+    all = λ l h. subst (Mem l) z (a.all l (h.0, λ c p q. h.1 c p (omega arith)));
+    only = λ l h. absurd (not_in_zero l h);
+  }
 
   pub sweep_end : (j k v : ℕ) → j ≡ k → SetOf v (StandFrom P over n X i j w) → SetOf v (StandFrom P over n X i k w)
   sweep_end j k v e a = subst (λ (x : ℕ). SetOf v (StandFrom P over n X i x w)) e a

@@ -1,12 +1,25 @@
 -- The parts of a set, numbered: what they hold, that they ascend, and that there are no others.
-use Rattle.std.proofs.Common.{◌≡◌, ℕ, zero, suc, ◌+◌, ◌*◌, ◌/◌, ◌%◌, ◌^◌, ◌<◌, ◌≤◌, min, sym, refl, ap, ◌∙◌, subst, ⊎_elim, arith, pow_pos}
+use Rattle.std.proofs.Common.{◌≡◌, ℕ, zero, suc, ◌+◌, ◌*◌, ◌/◌, ◌%◌, ◌^◌, ◌<◌, ◌≤◌, min, eqb, Decides, sym, refl, ap, ◌∙◌, subst, ⊎_elim, add-one, arith, pow_pos}
 use native.Mathlib.Nat.{pow-succ'}
 use lib.Count.{ones, ones_step}
 use Rattle.std.proofs.lemmas.Nat.{shr-shr}
 use Rattle.std.proofs.lemmas.Bool.{cases_lt}
+use Rattle.std.proofs.lemmas.Bool.Decides.{Decides-eqb, Decides-like}
 use Rattle.rules.specs.Semantics.{Mem}
 use Rattle.rules.proofs.Bitwise.{half_bit, two, same_members, mem_below, not_in_zero}
 use Rattle.steps.specs.Subsets.{rank, part}
+
+rank_suc : (m a : ℕ) → rank m (suc a) ≡ rank m a + m / 2 ^ a % 2
+unfolding rank
+rank_suc m zero = let e : m % 2 + 0 ≡ 0 + m / 1 % 2 = omega arith in e
+rank_suc m (suc a) = let i = rank_suc (m / 2) a in let h = half_bit m a in omega arith
+
+pub rank_more : (m a : ℕ) → rank m (a + 1) ≡ rank m a + m / 2 ^ a % 2
+rank_more m a = ap (rank m) (add-one a) ∙ rank_suc m a
+
+pub rank_none : (m : ℕ) → 0 ≡ rank m 0
+unfolding rank
+rank_none m = refl
 
 pub rank_le : (m a : ℕ) → rank m a ≤ a
 unfolding rank
@@ -107,3 +120,16 @@ part_onto (suc k) m s l f =
     let q = doubled m e in
     (v, omega arith, omega arith))
     (two m)
+
+-- what the bit of the number tells
+pub decides_part : (m t a i : ℕ) → a < 16 → i ≡ rank m a → Mem a m → Decides (eqb (t / 2 ^ i % 2) 1) (Mem a (part 16 m t))
+decides_part m t a i l e h =
+    let b = part_bit 16 a m t l in
+    let q : t / 2 ^ i % 2 ≡ t / 2 ^ rank m a % 2 = ap (λ (x : ℕ). t / 2 ^ x % 2) e in
+    Decides-like _ (λ o. omega arith) (λ o. omega arith) (Decides-eqb (t / 2 ^ i % 2) 1)
+
+pub rank_with : (m a i : ℕ) → i ≡ rank m a → Mem a m → i + 1 ≡ rank m (a + 1)
+rank_with m a i e h = let r = rank_more m a in omega arith
+
+pub rank_without : (m a i : ℕ) → i ≡ rank m a → (Mem a m → ⊥) → i ≡ rank m (a + 1)
+rank_without m a i e f = let r = rank_more m a in ⊎_elim (λ z. omega arith) (λ o. absurd (f o)) (two (m / 2 ^ a))

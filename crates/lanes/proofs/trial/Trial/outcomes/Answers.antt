@@ -5,7 +5,7 @@ use Rattle.lanes.specs.declared.block.Block.{Block}
 use Rattle.lanes.specs.declared.trial.Trial.{Trial}
 use Rattle.lanes.specs.Trying.{Facing, Tries}
 use Rattle.lanes.proofs.Trying.{AllStand, both_swept, struck_formed}
-use Rattle.lanes.proofs.Verdicts.{none_left, left_outcomes}
+use Rattle.lanes.proofs.Verdicts.{none_left, in_swept, swept_outcomes}
 use Rattle.lanes.proofs.trial.Trial.outcomes.Goals as goal
 use Rattle.lanes.proofs.trial.Trial.outcomes.Goals.{After-and_then-swept, then-first-self, else-first-self}
 
@@ -21,8 +21,9 @@ all_stand c P over M t =
 
 pub returns-in-Ok : goal.returns-in-Ok
 returns-in-Ok c = λ P over M total t.
-    left_outcomes P over _ M total (struck_formed P _ t.sound) t.small c.args.lanes _ (subst (AllStand P over _ (λ l. settled c.args.self.now.matters (M l)) c.args.lanes) c.in-Ok.is (all_stand c.before.before P over M t)) _ (c.founded.ensures P over _ (facing t))
+    swept_outcomes P over _ M total (struck_formed P _ t.sound) t.small c.args.lanes _ (subst (AllStand P over _ (λ l. settled c.args.self.now.matters (M l)) c.args.lanes) c.in-Ok.is (all_stand c.before.before P over M t)) _ (c.founded.ensures P over _ (facing t))
 
 pub returns-in-Err : goal.returns-in-Err
 returns-in-Err c = λ P over M total t.
-    none_left P over _ M total (struck_formed P _ t.sound) t.small c.args.lanes 0 (subst (AllStand P over _ (λ l. settled c.args.self.now.matters (M l)) c.args.lanes) c.in-Err.is (all_stand c.before P over M t)) refl
+    none_left P over _ M total (struck_formed P _ t.sound) t.small c.args.lanes 0 refl
+    (in_swept P over _ M total (struck_formed P _ t.sound) t.small c.args.lanes 0 (subst (AllStand P over _ (λ l. settled c.args.self.now.matters (M l)) c.args.lanes) c.in-Err.is (all_stand c.before P over M t)))

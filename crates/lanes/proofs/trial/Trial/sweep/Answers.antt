@@ -21,7 +21,7 @@ returns-then-lanes-eq0 c = λ P over X f b.
     record {
       reached = omega arith;
       below = k;
-      none = sweep_none P over _ X c.args.from c.args.lanes (c.loop-matter.matter + 1) (bit_and c.loop-matter.lanes c.standing-lanes.result) c.if-lanes-eq0.true
+      none = sweep_none P over _ X c.args.from c.args.lanes (c.loop-matter.matter + 1) (c.loop-matter.matter + 1) (bit_and c.loop-matter.lanes c.standing-lanes.result) c.if-lanes-eq0.true (omega arith)
           (sweep_more P over _ X c.args.from c.args.lanes c.loop-matter.matter c.loop-matter.lanes c.standing-lanes.result swept (c.standing-lanes.ensures P over X f (omega arith)) (omega arith) (omega arith));
       first = λ h z. c.loop-matter.invariant.1 h (set_unique swept z);
     }
