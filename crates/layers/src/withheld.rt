@@ -3,6 +3,7 @@ ghost use Rattle.layers.specs.Showing.{showing, off_sheet};
 ghost use Rattle.layers.specs.Shown.{showing_kept};
 
 use crate::showing::show;
+use laying::sifting::Choice;
 use racks::rack::Rack;
 use rules::rule::{Rule, Shape};
 use rules::table::Table;
@@ -42,6 +43,18 @@ impl<R: Rack> Rack for Withheld<R> {
     }
 
     fn survey(&self) -> (Shape, Table) {
-        show(self.below.survey(), |rule| rule.sheet != self.sheet)
+        show(self.below.survey(), &Off(self.sheet))
+    }
+}
+
+// The rules that are off a sheet.
+#[derive(Clone, Copy)]
+struct Off(u8);
+
+impl Choice for Off {
+    ghost chosen = { λ x. off_sheet x.0 };
+
+    fn takes(&self, rule: Rule) -> bool {
+        rule.sheet != self.0
     }
 }

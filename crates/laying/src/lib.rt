@@ -5,3 +5,4 @@ pub mod admission;
 pub mod fault;
 pub mod open_rack;
 pub mod pocket;
+pub mod sifting;
