@@ -65,8 +65,10 @@ fn perform_all<R: OpenRack, O: Order>(
 {
     let mut run = set_up(heap, start, calls, places)?;
     for call in calls {
-        let (after, answer) = run.perform(*call, order);
-        run = after;
+        let (purse, answer) = run
+            .purse
+            .perform(&mut run.kiosk, &mut run.lists, *call, order);
+        run.purse = purse;
         run.answers.push_reserved(answer);
     }
     Ok(run)

@@ -1,11 +1,11 @@
-ghost use Rattle.std.specs.Prelude.{◌≡◌, ◌-◌, None, vec_len};
+ghost use Rattle.std.specs.Prelude.{◌≡◌, ℕ, ◌-◌, ◌≤◌, None, vec_len};
 ghost use Rattle.kiosk.specs.Book.{step, Does};
 ghost use Rattle.kiosk.specs.Standing.{book_of};
 ghost use Rattle.kiosk.specs.declared.call.Call.TheVariants.{Open as OpenCall, End as EndCall};
 ghost use Rattle.runs.specs.Purse.{Pursed, Stocked};
 ghost use Rattle.runs.specs.Running.{Answers, ListedInto, asks, tally};
 
-use crate::run::{Answer, Purse, Run};
+use crate::run::{Answer, Purse};
 use evaluator::outcomes::outcomes;
 use kiosk::call::Call;
 use kiosk::fault::KioskFault;
@@ -14,39 +14,6 @@ use kiosk::ticket::{Returned, Ticket};
 use laying::open_rack::OpenRack;
 use orders::order::Order;
 use racks::rack::Rack;
-
-impl<R: OpenRack> Run<R> {
-    // Makes one call. The run is handed on by value, since a ticket in hand cannot be let go, not even for another.
-    pub(crate) fn perform<O: Order>(mut self, call: Call, order: &O) -> (Run<R>, Answer)
-        requires purse { Pursed (book_of R.OpenRack.state self.kiosk) self.purse }
-        requires stock { Stocked self.places (tally (asks call)) self.lists }
-        ensures answer { Answers (O.Order.over order.now) self.places (book_of R.OpenRack.state self.kiosk) call result.1 }
-        ensures book { book_of R.OpenRack.state result.0.kiosk ≡ (step (book_of R.OpenRack.state self.kiosk) call).book }
-        ensures purse { Pursed (book_of R.OpenRack.state result.0.kiosk) result.0.purse }
-        ensures stock { Stocked self.places (vec_len self.lists - tally (asks call)) result.0.lists }
-        ensures answers { result.0.answers ≡ self.answers }
-        ensures places { result.0.places ≡ self.places }
-    {
-        let answer = match call {
-            Call::Begin => Answer::Done(self.kiosk.begin()),
-            Call::Lay(rule) => Answer::Done(self.kiosk.lay(rule)),
-            Call::Withdraw => Answer::Done(self.kiosk.withdraw()),
-            Call::Open => {
-                let (purse, opened) = self.purse.open(&mut self.kiosk);
-                self.purse = purse;
-                Answer::Done(opened)
-            }
-            Call::Fact(matter, sign) => Answer::Done(self.kiosk.fact(matter, sign)),
-            Call::End => {
-                let (purse, ended) = self.purse.end(&mut self.kiosk);
-                self.purse = purse;
-                Answer::Done(ended)
-            }
-            Call::Outcomes => listed(&self.kiosk, order, self.lists.take_last()),
-        };
-        (self, answer)
-    }
-}
 
 impl Purse {
     // The reserve alone.
@@ -57,6 +24,39 @@ impl Purse {
         Purse {
             reserve,
             session: None,
+        }
+    }
+
+    // Makes one call of a kiosk; a listing takes one of the lists. The purse is handed on by value, since a ticket in hand cannot be
+    // let go, not even for another. What is large is lent, so that a call copies nothing.
+    pub(crate) fn perform<R: OpenRack, O: Order>(
+        self,
+        kiosk: &mut Kiosk<R>,
+        lists: &mut Vec<Vec<u16>>,
+        call: Call,
+        order: &O,
+    ) -> (Purse, Answer)
+        requires purse { Pursed (book_of R.OpenRack.state kiosk.old) self }
+        requires stock { tally (asks call) ≤ vec_len lists.old }
+        ensures answer { (places : ℕ) → Stocked places (tally (asks call)) lists.old → Answers (O.Order.over order.now) places (book_of R.OpenRack.state kiosk.old) call result.1 }
+        ensures book { book_of R.OpenRack.state kiosk.new ≡ (step (book_of R.OpenRack.state kiosk.old) call).book }
+        ensures purse { Pursed (book_of R.OpenRack.state kiosk.new) result.0 }
+        ensures stock { (places : ℕ) → Stocked places (tally (asks call)) lists.old → Stocked places (vec_len lists.old - tally (asks call)) lists.new }
+    {
+        match call {
+            Call::Begin => (self, Answer::Done(kiosk.begin())),
+            Call::Lay(rule) => (self, Answer::Done(kiosk.lay(rule))),
+            Call::Withdraw => (self, Answer::Done(kiosk.withdraw())),
+            Call::Open => {
+                let (purse, opened) = self.open(kiosk);
+                (purse, Answer::Done(opened))
+            }
+            Call::Fact(matter, sign) => (self, Answer::Done(kiosk.fact(matter, sign))),
+            Call::End => {
+                let (purse, ended) = self.end(kiosk);
+                (purse, Answer::Done(ended))
+            }
+            Call::Outcomes => (self, listed(kiosk, order, lists.take_last())),
         }
     }
 

@@ -22,15 +22,15 @@ loop-call-init g c =
       stock = r.stock;
     }
 
-pub perform-after-requires : goal.perform-after-requires
-perform-after-requires g c =
+pub perform-answer-requires : goal.perform-answer-requires
+perform-answer-requires g c =
     let i = c.loop-call.invariant in
     let calls = c.args.calls.now in
     let j = c.loop-call.call-index in
     let more : asked (drop j calls) ≡ tally (asks (get_or calls j Begin)) + asked (drop (j + 1) calls) = sum_by-drop_more (λ x. tally (asks x)) calls j Begin c.loop-call-test.true in
     record {
       purse = i.purse;
-      stock = subst (λ (n : ℕ). Stocked n (tally (asks (get_or calls j Begin))) c.loop-call.run.lists) (sym i.blank) (omega (arith, i.stock.0, more), i.stock.1);
+      stock = omega (arith, i.stock.0, more);
     }
 
 pub loop-call-preserved : goal.loop-call-preserved
@@ -40,17 +40,16 @@ loop-call-preserved g c =
     let i = c.loop-call.invariant in
     let calls = c.args.calls.now in
     let j = c.loop-call.call-index in
-    let p = c.perform-after.ensures in
+    let p = c.perform-answer.ensures in
     let more : asked (drop j calls) ≡ tally (asks (get_or calls j Begin)) + asked (drop (j + 1) calls) = sum_by-drop_more (λ x. tally (asks x)) calls j Begin c.loop-call-test.true in
-    let answer = subst (λ (n : ℕ). Answers (g.O.Order.over c.args.order.now) n (book_of st run.kiosk) (get_or calls j Begin) c.perform-after.result.1) i.blank p.answer in
-    let stock = subst (λ (n : ℕ). Stocked n (vec_len run.lists - tally (asks (get_or calls j Begin))) c.perform-after.result.0.lists) i.blank p.stock in
-    let items = c.push_reserved.ensures.items ∙ ap (λ (xs : List Answer). xs ++ (c.perform-after.result.1 ∷ [])) (ap vec_items p.answers) in
+    let in_stock : Stocked c.args.places (tally (asks (get_or calls j Begin))) run.lists = (omega (arith, i.stock.0, more), i.stock.1) in
+    let stock = p.stock c.args.places in_stock in
     record {
-      counted = omega (arith, ap vec_len p.answers, c.push_reserved.ensures.len, i.counted);
-      room = omega (arith, ap vec_capacity p.answers, c.push_reserved.ensures.capacity, i.room);
+      counted = omega (arith, c.push_reserved.ensures.len, i.counted);
+      room = omega (arith, c.push_reserved.ensures.capacity, i.room);
       purse = p.purse;
-      going = going_more (g.O.Order.over c.args.order.now) c.args.places (book_of st c.in_ok-run.run'.kiosk) (book_of st run.kiosk) (book_of st c.perform-after.result.0.kiosk) calls j Begin c.perform-after.result.1 (vec_items run.answers) _ i.going c.loop-call-test.true answer p.book items;
-      blank = p.places ∙ i.blank;
+      going = going_more (g.O.Order.over c.args.order.now) c.args.places (book_of st c.in_ok-run.run'.kiosk) (book_of st run.kiosk) _ calls j Begin c.perform-answer.result.1 (vec_items run.answers) _ i.going c.loop-call-test.true (p.answer c.args.places in_stock) p.book c.push_reserved.ensures.items;
+      blank = i.blank;
       stock = (omega (arith, stock.0, i.stock.0, more), stock.1);
     }
 
